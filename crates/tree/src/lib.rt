@@ -9,6 +9,7 @@ pub mod measure;
 pub mod pair;
 mod pool;
 mod remove;
+mod replace;
 pub mod row;
 mod seek;
 mod total;
