@@ -16,3 +16,4 @@ pub mod Stretches
 pub mod Weighing
 pub mod Seeking
 pub mod Splices
+pub mod Histories
