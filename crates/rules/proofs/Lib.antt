@@ -1,0 +1,4 @@
+pub mod Passes
+pub mod Ahead
+pub mod Step
+pub mod ByContexts

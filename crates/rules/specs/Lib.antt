@@ -1,0 +1,6 @@
+pub mod Classes
+pub mod Rules
+pub mod Worked
+pub mod Contexts
+pub mod Claims
+pub mod Finite
