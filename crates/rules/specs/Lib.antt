@@ -1,5 +1,6 @@
 pub mod Classes
 pub mod Rules
+pub mod Order
 pub mod Worked
 pub mod Contexts
 pub mod Claims

@@ -1,0 +1,10 @@
+pub mod Held
+pub mod Reading
+pub mod Writing
+pub mod Rotating
+pub mod Shaping
+pub mod Inserting
+pub mod Balancing
+pub mod Totals
+pub mod Removing
+pub mod Shrinking
