@@ -1,0 +1,4 @@
+pub mod actions;
+pub mod columns;
+pub mod contexts;
+pub mod item;
