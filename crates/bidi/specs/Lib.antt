@@ -1,2 +1,5 @@
 pub mod Items
 pub mod Actions
+pub mod Joins
+pub mod Sums
+pub mod Laws

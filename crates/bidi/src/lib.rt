@@ -1,4 +1,8 @@
-pub mod actions;
+//! Items of a paragraph, their two measures, and their levels, order and columns over slices.
+
+mod actions;
 pub mod columns;
 pub mod contexts;
 pub mod item;
+mod joining;
+pub mod measures;
