@@ -3,3 +3,4 @@ pub mod Actions
 pub mod Joins
 pub mod Sums
 pub mod Laws
+pub mod Claims
