@@ -4,3 +4,4 @@ pub mod Joins
 pub mod Sums
 pub mod Laws
 pub mod Claims
+pub mod Resolving

@@ -3,6 +3,8 @@
 mod actions;
 pub mod columns;
 pub mod contexts;
+pub mod fault;
 pub mod item;
 mod joining;
 pub mod measures;
+pub mod resolve;

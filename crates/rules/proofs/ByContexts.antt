@@ -2,9 +2,10 @@
 use mathlib.Core.Path.{_≡_, refl, sym, ap, ap₂, _∙_, subst, subst⁻¹}
 use mathlib.Core.Bool.{Bool, true, false, cond, not, _&&_, _||_}
 use mathlib.Core.List.{List, [], _∷_, _++_, map}
-use Prim.Native.Nat.{ℕ}
-use lib.Dec.{T, eqb→eq}
+use Prim.Native.Nat.{ℕ, suc, _≤_}
+use lib.Dec.{T, eqb→eq, leb, leb→le}
 use lib.ListN.{length, getD}
+use Rattle.std.specs.shelf.Lists.{All}
 use Rattle.rules.specs.declared.classes.Class.{Class}
 use Rattle.rules.specs.declared.classes.Class.the-variants.{L, R, AL, EN, ES, ET, AN, CS, NSM, S, WS, ON}
 use Rattle.rules.specs.declared.classes.Side.{Side}
@@ -13,8 +14,8 @@ use Rattle.rules.specs.declared.contexts.Left.{Left}
 use Rattle.rules.specs.declared.contexts.Right.{Right}
 use Rattle.rules.specs.Classes.{is, is-neutral, letter}
 use Rattle.rules.specs.Rules.{W1, W2, W3, W4, W6, W7, N1, N2, joins, next, leads-to-EN, ahead, I, levels}
-use Rattle.rules.specs.Contexts.{after, after-all, start, next-of, facing, level-at}
-use Rattle.rules.specs.Claims.{right-of, Levels-by-contexts}
+use Rattle.rules.specs.Contexts.{after, after-all, start, next-of, facing, settled, level-at}
+use Rattle.rules.specs.Claims.{right-of, Levels-by-contexts, Levels-are-low}
 use Rattle.rules.specs.Finite.{every, at, at₂, alike, met, fst, snd, same, is-false, classes, sides, bools}
 use Rattle.rules.proofs.Passes.{w5, W5-by-flag, n12, N1-N2-once, side-after}
 use Rattle.rules.proofs.Ahead.{class-of, stays, weak, front, back, leads-right, sees}
@@ -199,3 +200,19 @@ place b l (x ∷ xs) c ys = place b (after l x) xs c ys
 
 pub levels-by-contexts : Levels-by-contexts
 levels-by-contexts b xs c ys = ap (λ ns. getD ns (length xs) 0) (whole b (xs ++ (c ∷ ys))) ∙ place b (start b) xs c ys
+
+-- one level an item, at most 2
+as-many : (b : Side) (l : Left) (cs : List Class) → length (by-context b l cs) ≡ length cs
+as-many b l [] = refl
+as-many b l (c ∷ cs) = ap suc (as-many b (after l c) cs)
+
+low : (b : Side) (c : Class) → I b c ≤ 2
+low b c = leb→le (I b c) 2 (at₂ sides classes (λ b c. leb (I b c) 2) tt b c)
+
+all-low : (b : Side) (l : Left) (cs : List Class) → All (λ n. n ≤ 2) (by-context b l cs)
+all-low b l [] = tt
+all-low b l (c ∷ cs) = (low b (settled b l c (right-of b cs)), all-low b (after l c) cs)
+
+pub levels-are-low : Levels-are-low
+levels-are-low b cs =
+    (ap length (whole b cs) ∙ as-many b (start b) cs, subst⁻¹ (All (λ n. n ≤ 2)) (whole b cs) (all-low b (start b) cs))

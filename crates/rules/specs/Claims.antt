@@ -1,8 +1,9 @@
 -- What is claimed of the contexts.
 use mathlib.Core.Path.{_≡_}
 use mathlib.Core.List.{List, [], _∷_, _++_}
-use Prim.Native.Nat.{ℕ}
+use Prim.Native.Nat.{ℕ, _≤_}
 use lib.ListN.{length, getD}
+use Rattle.std.specs.shelf.Lists.{All}
 use Rattle.rules.specs.declared.classes.Class.{Class}
 use Rattle.rules.specs.declared.classes.Side.{Side}
 use Rattle.rules.specs.declared.contexts.Left.{Left}
@@ -32,3 +33,7 @@ Levels-by-contexts =
 abbrev pub Is-level : Side → Left → Class → Right → ℕ → Type 0
 Is-level base l c r n =
     (xs ys : List Class) → l ≡ left-of base xs → r ≡ right-of base ys → n ≡ level-between base xs c ys
+
+-- every item has a level, and none is above 2
+abbrev pub Levels-are-low : Type 0
+Levels-are-low = (base : Side) (cs : List Class) → (length (levels base cs) ≡ length cs) × All (λ l. l ≤ 2) (levels base cs)

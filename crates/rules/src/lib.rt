@@ -1,7 +1,7 @@
 // The rules that give each item of a paragraph its level, and the contexts that give the same level from both sides.
+pub mod claims;
 pub mod classes;
 pub mod contexts;
-pub mod worked;
 
 pub use classes::Class;
 pub use classes::Direction;

@@ -1,6 +1,6 @@
 use mathlib.Core.Path.{refl}
 use Rattle.rules.specs.Rules.{levels}
-use Rattle.rules.proofs.worked.worked_cases_stand.Needs as need
+use Rattle.rules.proofs.claims.worked_cases_stand.Needs as need
 
 pub returns : need.returns
 unfolding levels
