@@ -2,3 +2,9 @@ pub mod Passes
 pub mod Ahead
 pub mod Step
 pub mod ByContexts
+pub mod Reversing
+pub mod TwoReversals
+pub mod AroundItem
+pub mod ByStretches
+pub mod AlongOrder
+pub mod LowestOdd
