@@ -5,3 +5,4 @@ pub mod Sums
 pub mod Laws
 pub mod Claims
 pub mod Resolving
+pub mod Ordering

@@ -7,4 +7,5 @@ pub mod fault;
 pub mod item;
 mod joining;
 pub mod measures;
+pub mod order;
 pub mod resolve;
