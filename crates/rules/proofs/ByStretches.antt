@@ -9,12 +9,13 @@ use Rattle.std.specs.shelf.Lists.{sumBy, sum, All}
 use Rattle.std.proofs.shelf.Lists.{drop-more}
 use Rattle.std.proofs.shelf.Sums.{sumBy-cons}
 use Rattle.std.proofs.shelf.Tests.{cases-lt}
-use Rattle.rules.specs.Order.{places, reversed, at, L2}
+use Rattle.rules.specs.Order.{places, reordered, highest, at, L2}
 use Rattle.rules.specs.Order.{before, column-of}
 use Rattle.rules.specs.Stretches.{span, Stretch, Columns-by-stretches, Widths-are-sums, width-between}
 use Rattle.rules.proofs.Reversing.{Begins, Ends}
-use Rattle.rules.proofs.TwoReversals.{two-reversals}
-use Rattle.rules.proofs.AroundItem.{Apart, column-zero, column-one, column-two}
+use Rattle.rules.proofs.TwoReversals.{begun-above}
+use Rattle.rules.proofs.AroundItem.{Apart, twice}
+use Rattle.rules.proofs.Higher.{higher, all-levels, column-in, at-level-zero, at-level-one, at-level-two}
 
 places-add : (s m n : ℕ) → places s (m + n) ≡ places s m ++ places (s + m) n
 places-add s zero n =
@@ -91,25 +92,28 @@ module _ (levels : List ℕ) (p a b c d : ℕ) (s : Stretch levels 1 p a b) (t :
       (cases-lt b d)
 
 pub columns-by-stretches : Columns-by-stretches
-columns-by-stretches levels widths p two inside =
+unfolding L2
+columns-by-stretches levels widths p inside =
     let n : ℕ = length levels in
     let level : ℕ → ℕ = at levels in
     let w : ℕ → ℕ = at widths in
     let next : suc p ≡ p + 1 = omega arith in
     let all : n ≡ n - 0 = omega arith in
-    let to-twice : (l : List ℕ) → span 0 n ≡ l → column-of levels widths p ≡ sumBy w (before p (reversed level 1 (reversed level 2 l))) =
-    λ l e. ap (λ v. sumBy w (before p v)) (two-reversals levels two ∙ ap (λ v. reversed level 1 (reversed level 2 v)) (ap (places 0) all ∙ e)) in (
+    let m : ℕ = highest levels in
+    let above : 2 + m ≡ suc (suc m) = omega arith in
+    let in-order : (l : List ℕ) → span 0 n ≡ l → column-of levels widths p ≡ column-in level w p m l =
+    λ l e. ap (λ v. sumBy w (before p v)) (sym (begun-above levels 2 (places 0 n)) ∙ ap (λ k. reordered level k (places 0 n)) above ∙ all-levels level m (places 0 n) ∙ ap (λ v. twice level (higher level m v)) (ap (places 0) all ∙ e)) in (
       λ e.
-          to-twice (span 0 p ++ (p ∷ span (suc p) n)) (span-cut 0 p n (omega arith) (omega arith) ∙ ap (λ l. span 0 p ++ l) (span-head p n inside))
-          ∙ column-zero level w p (span 0 p) (span (suc p) n) (omega arith) (apart-below p p (omega arith) 0),
+          in-order (span 0 p ++ (p ∷ span (suc p) n)) (span-cut 0 p n (omega arith) (omega arith) ∙ ap (λ l. span 0 p ++ l) (span-head p n inside))
+          ∙ at-level-zero level w p m (span 0 p) (span (suc p) n) (omega arith) (apart-below p p (omega arith) 0),
       λ a b e s.
           let f : a ≤ p = s .from in
           let g : p < b = s .to in
           let h : b ≤ n = s .ends in
           let mid : span a b ≡ span a p ++ (p ∷ span (suc p) b) = span-cut a p b f (omega arith) ∙ ap (λ l. span a p ++ l) (span-head p b g) in
-          to-twice (span 0 a ++ ((span a p ++ (p ∷ span (suc p) b)) ++ span b n))
+          in-order (span 0 a ++ ((span a p ++ (p ∷ span (suc p) b)) ++ span b n))
           (span-cut 0 a n (omega arith) (omega arith) ∙ ap (λ l. span 0 a ++ l) (span-cut a b n (omega arith) h ∙ ap (λ l. l ++ span b n) mid))
-          ∙ column-one level w p (ends-span level 1 0 a (omega arith) (s .left)) (span a p) (span (suc p) b) (span b n) (begins-span level 1 b n (s .right)) (omega arith)
+          ∙ at-level-one level w p m (ends-span level 1 0 a (omega arith) (s .left)) (span a p) (span (suc p) b) (span b n) (begins-span level 1 b n (s .right)) (omega arith)
           (subst (All (λ z. 1 ≤ level z)) mid (all-span (λ z. 1 ≤ level z) a b (s .high)))
           (apart-below p a f 0) (apart-above p (suc p) b (omega arith))
           ∙ ap (λ i. width-between widths 0 a + width-between widths i b) next,
@@ -125,10 +129,10 @@ columns-by-stretches levels widths p two inside =
           let mid : span c d ≡ span c p ++ (p ∷ span (suc p) d) = span-cut c p d f2 (omega arith) ∙ ap (λ l. span c p ++ l) (span-head p d g2) in
           let whole : span a b ≡ span a c ++ ((span c p ++ (p ∷ span (suc p) d)) ++ span d b) =
           span-cut a c b ac (omega arith) ∙ ap (λ l. span a c ++ l) (span-cut c d b (omega arith) db ∙ ap (λ l. l ++ span d b) mid) in
-          to-twice (span 0 a ++ ((span a c ++ ((span c p ++ (p ∷ span (suc p) d)) ++ span d b)) ++ span b n))
+          in-order (span 0 a ++ ((span a c ++ ((span c p ++ (p ∷ span (suc p) d)) ++ span d b)) ++ span b n))
           (span-cut 0 a n (omega arith) (omega arith) ∙ ap (λ l. span 0 a ++ l) (span-cut a b n (omega arith) h ∙ ap (λ l. l ++ span b n) whole))
-          ∙ column-two level w p (ends-span level 1 0 a (omega arith) (s .left)) (ends-span level 2 a c ac (t .left)) (span c p) (span (suc p) d) (span d b) (span b n)
-          (begins-span level 2 d b (λ lt. t .right (omega arith))) (begins-span level 1 b n (s .right))
+          ∙ at-level-two level w p m (ends-span level 1 0 a (omega arith) (s .left)) (ends-span level 2 a c ac (t .left)) (span c p) (span (suc p) d) (span d b) (span b n)
+          (begins-span level 2 d b (λ lt. t .right (omega arith))) (begins-span level 1 b n (s .right)) (omega arith)
           (subst (All (λ z. 1 ≤ level z)) whole (all-span (λ z. 1 ≤ level z) a b (s .high)))
           (subst (All (λ z. 2 ≤ level z)) mid (all-span (λ z. 2 ≤ level z) c d (t .high)))
           (apart-below p a f 0) (apart-above p d b g2) (apart-below p p (omega arith) c),

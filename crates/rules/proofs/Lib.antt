@@ -5,6 +5,7 @@ pub mod ByContexts
 pub mod Reversing
 pub mod TwoReversals
 pub mod AroundItem
+pub mod Higher
 pub mod ByStretches
 pub mod AlongOrder
 pub mod LowestOdd

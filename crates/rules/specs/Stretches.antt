@@ -30,7 +30,6 @@ pub record Stretch (levels : List ℕ) (k p a b : ℕ) : Type 0 where
 abbrev pub Columns-by-stretches : Type 0
 Columns-by-stretches =
     (levels widths : List ℕ) (p : ℕ)
-    → All (λ l. l ≤ 2) levels
     → p < length levels
     → (getD levels p 0 ≡ 0 → column-of levels widths p ≡ width-between widths 0 p)
     × ((a b : ℕ) → getD levels p 0 ≡ 1 → Stretch levels 1 p a b → column-of levels widths p ≡ width-between widths 0 a + width-between widths (p + 1) b)
