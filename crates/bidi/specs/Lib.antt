@@ -6,3 +6,4 @@ pub mod Laws
 pub mod Claims
 pub mod Resolving
 pub mod Ordering
+pub mod Columning

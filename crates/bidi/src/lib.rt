@@ -1,6 +1,7 @@
 //! Items of a paragraph, their two measures, and their levels, order and columns over slices.
 
 mod actions;
+pub mod column;
 pub mod columns;
 pub mod contexts;
 pub mod fault;
