@@ -1,0 +1,154 @@
+//! The numbers of one item, and of two parts side by side, without taking them apart into contexts.
+
+ghost use Prim.Native.Nat.{_<_};
+ghost use Rattle.bidi.specs.Joins.{
+  side-join,
+  kind-join,
+  kind-of-number,
+  kind-of-terminator,
+  kind-of-both,
+  left-of,
+  right-of,
+  strong-of,
+  left-join,
+  right-join,
+  strong-join,
+};
+ghost use mathlib.Core.Path.{_≡_};
+use rules::Class;
+
+/// The action of one item on left contexts: its strong class, 4 times its side, 16 times its kind.
+pub(crate) fn left_number(class: Class) -> u8
+    ensures { λ r. ⌜ r ≡ left-of class ⌝ }
+{
+    match class {
+        Class::L => 1 + 4 * 2 + 16,
+        Class::R => 2 + 4 * 3 + 16,
+        Class::AL => 3 + 4 * 3 + 16,
+        Class::EN => 4 + 16 * 7,
+        Class::ET => 16 * 8,
+        Class::AN => 4 * 3 + 16 * 3,
+        Class::NSM => 0,
+        Class::ES | Class::CS | Class::S | Class::WS | Class::ON => 16 * 6,
+    }
+}
+
+/// The action of one item on right contexts: what it is, 4 times whether it leads to a number, 16 times its direction.
+pub(crate) fn right_number(class: Class) -> u8
+    ensures { λ r. ⌜ r ≡ right-of class ⌝ }
+{
+    match class {
+        Class::L => 3 + 4 * 2 + 16,
+        Class::R | Class::AL => 3 + 4 * 2 + 16 * 2,
+        Class::EN => 1 + 4 + 16 * 3,
+        Class::AN => 2 + 4 * 2 + 16 * 2,
+        Class::ET | Class::NSM => 3,
+        Class::ES | Class::CS | Class::S | Class::WS | Class::ON => 3 + 4 * 2,
+    }
+}
+
+/// The strong class of one item.
+pub(crate) fn strong_number(class: Class) -> u8
+    ensures { λ r. ⌜ r ≡ strong-of class ⌝ }
+{
+    match class {
+        Class::L => 1,
+        Class::R => 2,
+        Class::AL => 3,
+        _ => 0,
+    }
+}
+
+/// The side after two parts, where `strong` is the first one's strong class.
+fn join_side(strong: u8, a: u8, b: u8) -> u8
+    requires { ⌜ strong < 4 ⌝ ∗ ⌜ a < 4 ⌝ ∗ ⌜ b < 4 ⌝ }
+    ensures is { λ r. ⌜ r ≡ side-join strong a b ⌝ }
+    ensures within { λ r. ⌜ r < 4 ⌝ }
+{
+    match b {
+        0 => a,
+        1 => { if strong == 3 { 3 } else { strong + 1 } }
+        _ => b,
+    }
+}
+
+/// The kind of a European number after this strong class.
+fn number_kind(strong: u8) -> u8
+    ensures is { λ r. ⌜ r ≡ kind-of-number strong ⌝ }
+    ensures within { λ r. ⌜ r < 16 ⌝ }
+{
+    match strong {
+        0 => 7,
+        3 => 3,
+        _ => 2,
+    }
+}
+
+/// The kind of a terminator after this kind.
+fn terminator_kind(a: u8) -> u8
+    ensures is { λ r. ⌜ r ≡ kind-of-terminator a ⌝ }
+    ensures within { λ r. ⌜ r < 16 ⌝ }
+{
+    match a {
+        0 => 8,
+        2 => 5,
+        5 => 5,
+        7 => 9,
+        8 => 8,
+        9 => 9,
+        _ => 4,
+    }
+}
+
+/// The kind of a terminator after a European number after this strong class.
+fn both_kind(strong: u8) -> u8
+    ensures is { λ r. ⌜ r ≡ kind-of-both strong ⌝ }
+    ensures within { λ r. ⌜ r < 16 ⌝ }
+{
+    match strong {
+        0 => 9,
+        3 => 4,
+        _ => 5,
+    }
+}
+
+/// The kind after two parts, where `strong` is the first one's strong class.
+fn join_kind(strong: u8, a: u8, b: u8) -> u8
+    requires { ⌜ a < 16 ⌝ ∗ ⌜ b < 16 ⌝ }
+    ensures is { λ r. ⌜ r ≡ kind-join strong a b ⌝ }
+    ensures within { λ r. ⌜ r < 16 ⌝ }
+{
+    match b {
+        0 => a,
+        7 => number_kind(strong),
+        8 => terminator_kind(a),
+        9 => both_kind(strong),
+        _ => b,
+    }
+}
+
+/// The action of two parts on left contexts. A part with a strong class leaves nothing of what came before it.
+pub(crate) fn join_left(a: u8, b: u8) -> u8
+    ensures { λ r. ⌜ r ≡ left-join a b ⌝ }
+{
+    if b % 4 == 0 {
+        a % 4 + 4 * join_side(a % 4, a / 4 % 4, b / 4 % 4) + 16 * join_kind(a % 4, a / 16, b / 16)
+    } else {
+        b
+    }
+}
+
+/// The action of two parts on right contexts: the fields of the first, and the second's where the first keeps.
+pub(crate) fn join_right(a: u8, b: u8) -> u8
+    ensures { λ r. ⌜ r ≡ right-join a b ⌝ }
+{
+    let mask = ((a | (a >> 1)) & 21) * 3;
+    (a & mask) | (b & (63 - mask))
+}
+
+/// The first strong class of two parts.
+pub(crate) fn join_strong(a: u8, b: u8) -> u8
+    ensures { λ r. ⌜ r ≡ strong-join a b ⌝ }
+{
+    if a == 0 { b } else { a }
+}
