@@ -31,19 +31,11 @@ module _ (e f : Edges) (xs : List Class) (place count i : ℕ) where
       (λ o. omega (arith, o .0, length-take-le place xs (omega arith)))
       (λ o. omega (arith, o .0, o .1 .0, length-drop (place + count) xs)) v) u
 
-  pub decides-before : (h : i < place) (k : place ≤ length xs) (l l′ : Left) (r r′ : Right) (p q : ℕ) →
-      l ≡ left (start (e .base)) (take i xs) → l′ ≡ left (start (f .base)) (take i xs) →
-      r ≡ right (e .right) (drop (i + 1) (take place xs)) → r′ ≡ right (f .right) (drop (i + 1) (take place xs)) →
-      p ≡ level-at (e .base) l (getD xs i none) r → q ≡ level-at (f .base) l′ (getD xs i none) r′ → Decides (not (eqb p q)) At
-  decides-before h k l l′ r r′ p q hl hl′ hr hr′ hp hq =
-      let front = take place xs in
-      let item = sym (getD-take place xs i none h) in
+  -- p and q are the levels that the two edges gave the item
+  pub decides-before : i < place → place ≤ length xs → (p q : ℕ) →
+      p ≡ level-in (e .base) (start (e .base)) (e .right) (take place xs) i → q ≡ level-in (f .base) (start (f .base)) (f .right) (take place xs) i → Decides (not (eqb p q)) At
+  decides-before h k p q was is =
       let long = length-take-le place xs k in
-      let same = sym (take-take i place xs (omega arith)) in
-      let was : p ≡ level-in (e .base) (start (e .base)) (e .right) front i =
-      hp ∙ (λ t. level-at (e .base) ((hl ∙ ap (left (start (e .base))) same) t) (item t) (hr t)) in
-      let is : q ≡ level-in (f .base) (start (f .base)) (f .right) front i =
-      hq ∙ (λ t. level-at (f .base) ((hl′ ∙ ap (left (start (f .base))) same) t) (item t) (hr′ t)) in
       decides-like (not (eqb p q))
       (λ (o : p ≡ q → ⊥). inr (inl (omega (arith, long), λ d. o (was ∙ d ∙ sym is))))
       (λ (u : At). ⊎-elim (λ g. absurd (no (g .0))) (λ v. ⊎-elim (λ o d. o .1 (sym was ∙ d ∙ is)) (λ o. absurd (far (o .0))) v) u)
@@ -58,24 +50,10 @@ module _ (e f : Edges) (xs : List Class) (place count i : ℕ) where
   pub decides-given : place ≤ i → i < place + count → Decides true At
   decides-given h k = (λ _. inl (h, k), λ _. refl)
 
-  pub decides-behind : (h : place + count ≤ i) (k : i < length xs) (l l′ : Left) (r r′ : Right) (p q : ℕ) →
-      l ≡ left (e .left) (drop (place + count) (take i xs)) → l′ ≡ left (f .left) (drop (place + count) (take i xs)) →
-      r ≡ right (end (e .base)) (drop (i + 1) xs) → r′ ≡ right (end (f .base)) (drop (i + 1) xs) →
-      p ≡ level-at (e .base) l (getD xs i none) r → q ≡ level-at (f .base) l′ (getD xs i none) r′ → Decides (not (eqb p q)) At
-  decides-behind h k l l′ r r′ p q hl hl′ hr hr′ hp hq =
-      let from = place + count in
-      let rest = drop from xs in
-      let n = i - from in
-      let whole : from + n ≡ i = omega arith in
-      let beyond : i + 1 ≡ from + (n + 1) = omega arith in
-      let item : getD xs i none ≡ getD rest n none = sym (getD-drop from xs n none ∙ ap (λ (k : ℕ). getD xs k none) whole) in
-      let part : drop from (take i xs) ≡ take n rest = ap (λ (k : ℕ). drop from (take k xs)) (sym whole) ∙ drop-take from n xs in
-      let back : drop (i + 1) xs ≡ drop (n + 1) rest = ap (λ (k : ℕ). drop k xs) beyond ∙ sym (drop-drop (n + 1) from xs) in
-      let long = length-drop from xs in
-      let was : p ≡ level-in (e .base) (e .left) (end (e .base)) rest n =
-      hp ∙ (λ t. level-at (e .base) ((hl ∙ ap (left (e .left)) part) t) (item t) ((hr ∙ ap (right (end (e .base))) back) t)) in
-      let is : q ≡ level-in (f .base) (f .left) (end (f .base)) rest n =
-      hq ∙ (λ t. level-at (f .base) ((hl′ ∙ ap (left (f .left)) part) t) (item t) ((hr′ ∙ ap (right (end (f .base))) back) t)) in
+  pub decides-behind : place + count ≤ i → i < length xs → (p q : ℕ) →
+      p ≡ level-in (e .base) (e .left) (end (e .base)) (drop (place + count) xs) (i - (place + count)) → q ≡ level-in (f .base) (f .left) (end (f .base)) (drop (place + count) xs) (i - (place + count)) → Decides (not (eqb p q)) At
+  decides-behind h k p q was is =
+      let long = length-drop (place + count) xs in
       decides-like (not (eqb p q))
       (λ (o : p ≡ q → ⊥). inr (inr (h, (omega (arith, long), λ d. o (was ∙ d ∙ sym is)))))
       (λ (u : At). ⊎-elim (λ g. absurd (no (g .1))) (λ v. ⊎-elim (λ o. absurd (far (o .0))) (λ o d. o .1 .1 (sym was ∙ d ∙ is)) v) u)
@@ -86,6 +64,22 @@ module _ (e f : Edges) (xs : List Class) (place count i : ℕ) where
 
       far : i < length (take place xs) → ⊥
       far a = omega (arith, length-take-le place xs (omega arith))
+
+-- the level of an item from its class and the contexts beside it
+module _ (xs : List Class) (b : Side) where
+  pub level-front : (place i : ℕ) (r : Right) (l : Left) (c : Class) (s : Right) (n : ℕ) → i < place → l ≡ left (start b) (take i xs) → c ≡ getD xs i none → s ≡ right r (drop (i + 1) (take place xs)) → n ≡ level-at b l c s → n ≡ level-in b (start b) r (take place xs) i
+  level-front place i r l c s n h hl hc hs hn =
+      hn ∙ (λ t. level-at b ((hl ∙ ap (left (start b)) (sym (take-take i place xs (omega arith)))) t) ((hc ∙ sym (getD-take place xs i none h)) t) (hs t))
+
+  pub level-rest : (from i : ℕ) (k l : Left) (c : Class) (s : Right) (n : ℕ) → from ≤ i → l ≡ left k (drop from (take i xs)) → c ≡ getD xs i none → s ≡ right (end b) (drop (i + 1) xs) → n ≡ level-at b l c s → n ≡ level-in b k (end b) (drop from xs) (i - from)
+  level-rest from i k l c s n h hl hc hs hn =
+      let m = i - from in
+      let whole : from + m ≡ i = omega arith in
+      let beyond : i + 1 ≡ from + (m + 1) = omega arith in
+      let item : getD xs i none ≡ getD (drop from xs) m none = sym (getD-drop from xs m none ∙ ap (λ (j : ℕ). getD xs j none) whole) in
+      let part : drop from (take i xs) ≡ take m (drop from xs) = ap (λ (j : ℕ). drop from (take j xs)) (sym whole) ∙ drop-take from m xs in
+      let back : drop (i + 1) xs ≡ drop (m + 1) (drop from xs) = ap (λ (j : ℕ). drop j xs) beyond ∙ sym (drop-drop (m + 1) from xs) in
+      hn ∙ (λ t. level-at b ((hl ∙ ap (left k) part) t) ((hc ∙ item) t) ((hs ∙ ap (right (end b)) back) t))
 
 pub changed-within : (e f : Edges) (xs : List Class) (place count : ℕ) → place + count ≤ length xs → (i : ℕ) → Changed-by e f xs place count i → i < length xs
 changed-within e f xs place count h i u = within e f xs place count i h u

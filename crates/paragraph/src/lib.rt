@@ -3,3 +3,5 @@
 mod context;
 pub mod paragraph;
 pub mod span;
+mod scan;
+mod walk;
