@@ -6,3 +6,4 @@ pub mod Leftwards
 pub mod Rightwards
 pub mod Stored
 pub mod Stretched
+pub mod Levels

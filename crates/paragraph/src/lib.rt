@@ -1,7 +1,10 @@
 //! A paragraph in mixed directions: its items, corrections to them, and what each correction changes on the screen.
 
 mod context;
+mod edit;
+pub mod fault;
+pub mod outcome;
 pub mod paragraph;
-pub mod span;
 mod scan;
+pub mod span;
 mod walk;
