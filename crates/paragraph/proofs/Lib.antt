@@ -7,3 +7,4 @@ pub mod Rightwards
 pub mod Stored
 pub mod Stretched
 pub mod Levels
+pub mod Edits

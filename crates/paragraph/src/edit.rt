@@ -77,4 +77,27 @@ impl<'t, 'a> Paragraph<'t, 'a> {
         self.direction = direction;
         self.outcome(0, 0, was)
     }
+
+    /// Replaces `removed` items from a place on by new ones. Items that are given are new, even if equal to the removed ones.
+    pub fn edit(&mut self, place: usize, removed: usize, items: &[Item]) -> Result<Outcome, ParagraphFault>
+        ensures answer { λ r. ⌜ verdict r ≡ edit-answer (room-of (now (self .entry))) (items-of (now (self .entry))) place removed (now (items .entry)) ⌝ }
+        ensures items { λ _. ⌜ items-of (now (self .exit)) ≡ after-edit (room-of (now (self .entry))) (items-of (now (self .entry))) place removed (now (items .entry)) ⌝ }
+        ensures direction { λ _. ⌜ now (self .exit) .direction ≡ now (self .entry) .direction ⌝ }
+        ensures room { λ _. ⌜ room-of (now (self .exit)) ≡ room-of (now (self .entry)) ⌝ }
+        ensures refused { λ r. ⌜ Untouched r (now (self .entry)) (now (self .exit)) ⌝ }
+        ensures outcome { λ r. ⌜ made r (Outcome-of (now (self .entry)) (now (self .exit)) place removed (length (now (items .entry)))) ⌝ }
+    {
+        let count = self.tree.len();
+        if place > count {
+            return Err(ParagraphFault::Place);
+        }
+        if removed > count - place {
+            return Err(ParagraphFault::Removed);
+        }
+        narrow_all(items)?;
+        let end = place + removed;
+        let was = self.edges(self.base(), place, end);
+        self.tree.replace(place, end, items)?;
+        Ok(self.outcome(place, items.len(), was))
+    }
 }
