@@ -38,3 +38,7 @@ module _ (d d′ : Direction) (xs new ys : List Item) (place removed : ℕ) (h :
       (level-by-place (base-of d xs) (classes xs)) (level-by-place (base-of d′ ys) (classes ys)) (levels-are-low (base-of d′ ys) (classes ys) .0)
       e f p (q ∙ ap (λ c. edges (base-of d′ ys) (classes ys) place (place + c)) (sym n)) r
       (subst (λ c. Span-of (Changed-by e f (classes ys) place c) r) (sym n) s))
+
+-- there is a level for each item
+pub length-levels : (d : Direction) (items : List Item) → length (levels-of d items) ≡ length items
+length-levels d items = levels-are-low (base-of d items) (classes items) .0 ∙ length-classes items

@@ -8,3 +8,4 @@ pub mod Stored
 pub mod Stretched
 pub mod Levels
 pub mod Edits
+pub mod Widths

@@ -27,7 +27,7 @@ module _ {X Y : Type 0} (f : X → Y) where
   map-drop (suc n) [] = refl
   map-drop (suc n) (x ∷ xs) = map-drop n xs
 
-  map-between : (i j : ℕ) (xs : List X) → map f (between i j xs) ≡ between i j (map f xs)
+  pub map-between : (i j : ℕ) (xs : List X) → map f (between i j xs) ≡ between i j (map f xs)
   map-between i j xs = map-take (j - i) (drop i xs) ∙ ap (take (j - i)) (map-drop i xs)
 
   pub map-spliced : (xs ys : List X) (i j : ℕ) → map f (spliced xs i j ys) ≡ spliced (map f xs) i j (map f ys)
@@ -71,3 +71,21 @@ pub read-there : {E : Type 0} (xs : List E) (p d n : ℕ) → p < length xs → 
 read-there [] p d n h e = omega arith
 read-there (x ∷ xs) zero d n h e = let z : _≡_ {A = ℕ} 0 1 = cc in omega arith
 read-there (x ∷ xs) (suc p) d n h e = read-there xs p d n (omega arith) e
+
+-- the depth of an answer, or another
+depth-told : {E : Type 0} → ℕ → Result (E × ℕ) ℕ → ℕ
+depth-told d (Ok q) = q .1
+depth-told d (Err n) = d
+
+-- an answer comes just from a place that is there, with its depth
+pub read-told : {E : Type 0} (xs : List E) (p d : ℕ) (x : E) (e : ℕ) → Ok (x, e) ≡ with-depth d (found (nth xs p)) → (p < length xs) × (e ≡ d)
+unfolding depth-told
+read-told [] p d x e h = let z : _≡_ {A = ℕ} 0 1 = cc in absurd (omega arith)
+read-told (y ∷ ys) zero d x e h = (omega arith, ap (depth-told e) h)
+read-told (y ∷ ys) (suc p) d x e h = let r = read-told ys p d x e h in let l = r .0 in (omega arith, r .1)
+
+-- and a refusal from past the end
+pub read-past : {E : Type 0} (xs : List E) (p d n : ℕ) → Err n ≡ with-depth d (found (nth xs p)) → length xs ≤ p
+read-past [] p d n h = omega arith
+read-past (y ∷ ys) zero d n h = let z : _≡_ {A = ℕ} 0 1 = cc in absurd (omega arith)
+read-past (y ∷ ys) (suc p) d n h = let r = read-past ys p d n h in omega arith

@@ -6,3 +6,4 @@ pub mod Faults
 pub mod Plain
 pub mod Paragraphs
 pub mod Outcomes
+pub mod Asking

@@ -1,5 +1,6 @@
 //! A paragraph in mixed directions: its items, corrections to them, and what each correction changes on the screen.
 
+mod ask;
 mod context;
 mod edit;
 pub mod fault;
