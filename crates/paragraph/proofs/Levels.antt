@@ -4,6 +4,10 @@ use mathlib.Core.List.{List, [], _∷_, _++_}
 use Prim.Native.Nat.{ℕ, _+_, _<_, _≤_}
 use native.Mathlib.Omega.{arith}
 use lib.ListN.{length, getD}
+use mathlib.Core.Logic.{⊎-elim}
+use Rattle.std.proofs.shelf.Elements.{all-getD}
+use Rattle.std.proofs.shelf.Lists.{getD-past}
+use Rattle.std.proofs.shelf.Tests.{cases-lt}
 use Rattle.std.specs.declared.option.Option.{Option}
 use Rattle.tree.specs.Plain.{spliced}
 use Rattle.rules.specs.Contexts.{start, end}
@@ -42,3 +46,10 @@ module _ (d d′ : Direction) (xs new ys : List Item) (place removed : ℕ) (h :
 -- there is a level for each item
 pub length-levels : (d : Direction) (items : List Item) → length (levels-of d items) ≡ length items
 length-levels d items = levels-are-low (base-of d items) (classes items) .0 ∙ length-classes items
+
+-- and none is above 2
+pub level-low : (d : Direction) (items : List Item) (k : ℕ) → getD (levels-of d items) k 0 ≤ 2
+level-low d items k =
+    let b = base-of d items in
+    let cs = classes items in
+    ⊎-elim (λ (h : k < length (levels b cs)). all-getD (λ l. l ≤ 2) (levels b cs) k 0 h (levels-are-low b cs .1)) (λ (h : length (levels b cs) ≤ k). let z = getD-past (levels b cs) k 0 h in omega arith) (cases-lt k (length (levels b cs)))

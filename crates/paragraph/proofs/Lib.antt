@@ -9,3 +9,4 @@ pub mod Stretched
 pub mod Levels
 pub mod Edits
 pub mod Widths
+pub mod Around

@@ -22,7 +22,7 @@ use tree::pair::PairMeasure;
 
 impl Paragraph<'_, '_> {
     /// The level of an item that is there, under the base direction.
-    fn level_at(&self, base: Side, place: usize) -> u8
+    pub(crate) fn level_at(&self, base: Side, place: usize) -> u8
         requires base { ⌜ base ≡ base-in (now self) ⌝ }
         requires within { ⌜ place < length (items-of (now self)) ⌝ }
         ensures { λ r. ⌜ r ≡ getD (levels-in (now (self .entry))) place 0 ⌝ }
@@ -43,7 +43,7 @@ impl Paragraph<'_, '_> {
     }
 
     /// The width of a stretch.
-    fn width_of(&self, first: usize, end: usize) -> u32
+    pub(crate) fn width_of(&self, first: usize, end: usize) -> u32
         requires ordered { ⌜ first ≤ end ⌝ }
         requires within { ⌜ end ≤ length (items-of (now self)) ⌝ }
         ensures sum { λ r. ⌜ r ≡ width-between (widths (items-of (now (self .entry)))) first end ⌝ }
