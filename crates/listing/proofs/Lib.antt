@@ -1,0 +1,3 @@
+pub mod Spacing
+pub mod Columns
+pub mod Buffers

@@ -1,0 +1,5 @@
+//! Lines of a direction and items, and what the rules make of them, as text.
+
+pub mod listing;
+pub mod refusal;
+mod text;
