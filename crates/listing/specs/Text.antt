@@ -11,6 +11,8 @@ use Rattle.bidi.specs.declared.item.Item.{Item}
 use Rattle.bidi.specs.Items.{widths}
 use Rattle.bidi.specs.Resolving.{base-of, levels-of}
 use Rattle.bidi.specs.Sums.{held}
+use Rattle.listing.specs.declared.refusal.Refusal.{Refusal}
+use Rattle.listing.specs.declared.refusal.Refusal.the-variants.{Fields, Direction as no-direction, Item as no-item, Memory}
 
 -- numbers, each behind a space
 abbrev pub spaced : List ℕ → List ℕ
@@ -29,3 +31,10 @@ listed-from base levels items =
 -- that of a paragraph
 abbrev pub listed : Direction → List Item → List ℕ
 listed direction items = listed-from (base-level (base-of direction items)) (levels-of direction items) items
+
+-- a refusal: a mark, the number of the line, and the reason
+abbrev pub refused-text : ℕ → Refusal → List ℕ
+refused-text line Fields = codes "!\t" ++ (decimal line ++ codes "\tfields")
+refused-text line no-direction = codes "!\t" ++ (decimal line ++ codes "\tdirection")
+refused-text line (no-item p) = codes "!\t" ++ (decimal line ++ (codes "\titem " ++ decimal p))
+refused-text line Memory = codes "!\t" ++ (decimal line ++ codes "\tmemory")

@@ -1,7 +1,7 @@
 //! What the rules make of a paragraph, as a line of text.
 
 ghost use Prim.Native.Nat.{_≤_};
-ghost use Rattle.listing.specs.Text.{columns-from, listed, listed-from, spaced};
+ghost use Rattle.listing.specs.Text.{columns-from, listed, listed-from, refused-text, spaced};
 ghost use Rattle.bidi.specs.Resolving.{base-of, levels-of};
 ghost use Rattle.rules.specs.Order.{L2};
 ghost use Rattle.std.specs.Of.Vec.{vec-items};
@@ -24,6 +24,7 @@ use bidi::order::order;
 use bidi::resolve::resolve;
 use rules::Direction;
 use rules::Side;
+use std::alloc::AllocError;
 use std::alloc::Global;
 use std::fmt;
 
@@ -99,4 +100,16 @@ pub fn listing(heap: Global, direction: Direction, items: &[Item]) -> Result<Str
         items,
     )?;
     Ok(text)
+}
+
+/// The line for a line that is refused.
+pub fn refused(heap: Global, line: usize, refusal: Refusal) -> Result<String, AllocError>
+    ensures { λ r. ⌜ made r (λ s. string-bytes s ≡ refused-text line refusal) ⌝ }
+{
+    match refusal {
+        Refusal::Fields => format!(heap, "!\t{line}\tfields"),
+        Refusal::Direction => format!(heap, "!\t{line}\tdirection"),
+        Refusal::Item(position) => format!(heap, "!\t{line}\titem {position}"),
+        Refusal::Memory => format!(heap, "!\t{line}\tmemory"),
+    }
 }
