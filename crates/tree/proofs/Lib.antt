@@ -8,3 +8,12 @@ pub mod Balancing
 pub mod Totals
 pub mod Removing
 pub mod Shrinking
+pub mod Wholes
+pub mod Depths
+pub mod Facts
+pub mod Plains
+pub mod Stretches
+pub mod Weighing
+pub mod Seeking
+pub mod Splices
+pub mod Histories

@@ -2,6 +2,8 @@ pub mod Measures
 pub mod Pairs
 pub mod Shapes
 pub mod Surgery
-pub mod Removals
+pub mod Changes
 pub mod Plain
 pub mod Trees
+pub mod Weights
+pub mod History
