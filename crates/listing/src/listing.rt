@@ -6,6 +6,8 @@ ghost use Rattle.bidi.specs.Resolving.{base-of, levels-of};
 ghost use Rattle.rules.specs.Order.{L2};
 ghost use Rattle.std.specs.Of.Vec.{vec-items};
 ghost use Rattle.std.specs.Of.String.{string-bytes};
+ghost use Rattle.listing.specs.declared.refusal.Refusal.the-variants.{Memory};
+ghost use Rattle.std.specs.Results.{Cases};
 ghost use Rattle.std.specs.Vec.{made};
 ghost use Rattle.std.specs.shelf.Lists.{All};
 ghost use lib.ListN.{length};
@@ -43,7 +45,7 @@ fn add_columns(text: &mut String, levels: &[u8], items: &[Item]) -> fmt::Result
 
 /// The base direction and the levels of a paragraph.
 fn levels_in(heap: Global, direction: Direction, items: &[Item]) -> Result<(Side, Vec<u8>), Refusal>
-    ensures { λ r. ⌜ made r (λ p. (p .0 ≡ base-of direction (now (items .entry))) × (vec-items (p .1) ≡ levels-of direction (now (items .entry)))) ⌝ }
+    ensures { λ r. ⌜ Cases r (λ p. (p .0 ≡ base-of direction (now (items .entry))) × (vec-items (p .1) ≡ levels-of direction (now (items .entry)))) (λ e. e ≡ Memory) ⌝ }
 {
     let mut levels: Vec<u8> = vec![in heap; 0; items.len()]?;
     match resolve(direction, items, levels.as_mut_slice()) {
@@ -54,7 +56,7 @@ fn levels_in(heap: Global, direction: Direction, items: &[Item]) -> Result<(Side
 
 /// The places of a paragraph with these levels, in visual order.
 fn order_in(heap: Global, levels: &[u8]) -> Result<Vec<usize>, Refusal>
-    ensures { λ r. ⌜ made r (λ v. vec-items v ≡ L2 (now (levels .entry))) ⌝ }
+    ensures { λ r. ⌜ Cases r (λ v. vec-items v ≡ L2 (now (levels .entry))) (λ e. e ≡ Memory) ⌝ }
 {
     let mut places: Vec<usize> = vec![in heap; 0; levels.len()]?;
     match order(levels, places.as_mut_slice()) {
@@ -87,7 +89,7 @@ fn add_all(
 
 /// The base level, the levels, the visual order and the columns of a paragraph, on one line.
 pub fn listing(heap: Global, direction: Direction, items: &[Item]) -> Result<String, Refusal>
-    ensures { λ r. ⌜ made r (λ s. string-bytes s ≡ listed direction (now (items .entry))) ⌝ }
+    ensures { λ r. ⌜ Cases r (λ s. string-bytes s ≡ listed direction (now (items .entry))) (λ e. e ≡ Memory) ⌝ }
 {
     let (base, levels) = levels_in(heap, direction, items)?;
     let places = order_in(heap, levels.as_slice())?;

@@ -1,5 +1,7 @@
 //! Why a line is refused.
 
+ghost use Rattle.listing.specs.declared.refusal.Refusal.the-variants.{Memory};
+ghost use mathlib.Core.Path.{_≡_};
 use std::alloc::AllocError;
 use std::fmt;
 
@@ -17,12 +19,16 @@ pub enum Refusal {
 }
 
 pub impl From<AllocError> for Refusal as RefusalFromAlloc {
+    ghost converts = { λ _ r. r ≡ Memory };
+
     fn from(_error: AllocError) -> Refusal {
         Refusal::Memory
     }
 }
 
 pub impl From<fmt::Error> for Refusal as RefusalFromFmt {
+    ghost converts = { λ _ r. r ≡ Memory };
+
     fn from(_error: fmt::Error) -> Refusal {
         Refusal::Memory
     }
