@@ -4,6 +4,7 @@ use Prim.Native.Nat.{ℕ, _/_, _%_}
 use lib.Dec.{eqb}
 use Rattle.std.specs.declared.option.Option.{Option}
 use Rattle.std.specs.declared.option.Option.the-variants.{Some, None}
+use Rattle.rules.specs.declared.classes.Class.the-variants.{EN, ET}
 use Rattle.rules.specs.declared.classes.Strong.{Strong}
 use Rattle.rules.specs.declared.classes.Strong.the-variants.{L as strong-L, R as strong-R, AL as strong-AL}
 use Rattle.rules.specs.declared.classes.Side.{Side}
@@ -16,7 +17,7 @@ use Rattle.rules.specs.declared.contexts.Next.the-variants.{European as next-EN
 use Rattle.rules.specs.declared.contexts.First.{First}
 use Rattle.rules.specs.declared.contexts.First.the-variants.{L as first-L, R as first-R, European as first-EN}
 use Rattle.rules.specs.declared.contexts.Right.{Right}
-use Rattle.rules.specs.Contexts.{number-side, number-kind, terminated}
+use Rattle.rules.specs.Contexts.{after}
 use Rattle.bidi.specs.declared.actions.SideEffect.{SideEffect}
 use Rattle.bidi.specs.declared.actions.SideEffect.the-variants.{Keep as keep-side, Number as side-number, To as to-side}
 use Rattle.bidi.specs.declared.actions.KindEffect.{KindEffect}
@@ -65,23 +66,23 @@ abbrev pub replaced : {X : Type 0} → Option X → X → X
 replaced None x = x
 replaced (Some y) x = y
 
--- the side after a part, where `s` is the strong class before it
-abbrev pub act-side : SideEffect → Strong → Side → Side
-act-side keep-side s d = d
-act-side side-number s d = number-side s
-act-side (to-side e) s d = e
+-- the side after a part: kept, that of a European number, or its own
+abbrev pub act-side : SideEffect → Left → Side
+act-side keep-side l = l .side
+act-side side-number l = after l EN .side
+act-side (to-side d) l = d
 
--- the kind after a part
-abbrev pub act-kind : KindEffect → Strong → Kind → Kind
-act-kind keep-kind s k = k
-act-kind (to-kind e) s k = e
-act-kind kind-number s k = number-kind s
-act-kind ended s k = terminated k
-act-kind number-ended s k = terminated (number-kind s)
+-- the kind after a part: kept, its own, or that of a European number, of a terminator, or of both in turn
+abbrev pub act-kind : KindEffect → Left → Kind
+act-kind keep-kind l = l .kind
+act-kind (to-kind k) l = k
+act-kind kind-number l = after l EN .kind
+act-kind ended l = after l ET .kind
+act-kind number-ended l = after (after l EN) ET .kind
 
 -- the left context after a part
 abbrev pub act-left : LeftAction → Left → Left
-act-left a l = record { strong = replaced (a .strong) (l .strong); side = act-side (a .side) (l .strong) (l .side); kind = act-kind (a .kind) (l .strong) (l .kind) }
+act-left a l = record { strong = replaced (a .strong) (l .strong); side = act-side (a .side) l; kind = act-kind (a .kind) l }
 
 -- the right context before a part
 abbrev pub act-right : RightAction → Right → Right

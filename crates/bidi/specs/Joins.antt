@@ -1,6 +1,6 @@
 -- The numbers of one item, and of two parts side by side.
 use mathlib.Core.Bool.{cond}
-use Prim.Native.Nat.{ℕ, _+_, _-_, _*_, _/_, _%_}
+use Prim.Native.Nat.{ℕ, _+_, _-_, _*_, _/_, _%_, _^_}
 use lib.Bits.{bitAnd, bitOr}
 use lib.Dec.{eqb}
 use Rattle.rules.specs.declared.classes.Class.{Class}
@@ -55,29 +55,21 @@ strong-of S = 0
 strong-of WS = 0
 strong-of ON = 0
 
--- the side after two parts, where s is the first one's strong class
+-- the k-th of the sixteen small numbers that one number holds
+abbrev pub picked : ℕ → ℕ → ℕ
+picked menu k = bitAnd (menu / 2 ^ (4 * k)) 15
+
+-- the side after two parts, where s is the first one's strong class: the first one's, that of a number, or the second one's
 abbrev pub side-join : ℕ → ℕ → ℕ → ℕ
-side-join s a b = cond (eqb b 0) a (cond (eqb b 1) (cond (eqb s 3) 3 (s + 1)) b)
+side-join s a b = picked (a + 16 * picked 0x3321 s + 0x3200) b
 
--- the kind of a European number after a strong class
-abbrev pub kind-of-number : ℕ → ℕ
-kind-of-number s = cond (eqb s 0) 7 (cond (eqb s 3) 3 2)
-
--- the kind of a terminator after a kind
-abbrev pub kind-of-terminator : ℕ → ℕ
-kind-of-terminator a = cond (eqb a 0) 8 (cond (eqb a 2) 5 (cond (eqb a 5) 5 (cond (eqb a 7) 9 (cond (eqb a 8) 8 (cond (eqb a 9) 9 4)))))
-
--- the kind of a terminator after a European number after a strong class
-abbrev pub kind-of-both : ℕ → ℕ
-kind-of-both s = cond (eqb s 0) 9 (cond (eqb s 3) 4 5)
-
--- the kind after two parts
+-- the kind after two parts: the first one's, the second one's own, that of a number, of a terminator, or of both in turn
 abbrev pub kind-join : ℕ → ℕ → ℕ → ℕ
-kind-join s a b = cond (eqb b 0) a (cond (eqb b 7) (kind-of-number s) (cond (eqb b 8) (kind-of-terminator a) (cond (eqb b 9) (kind-of-both s) b)))
+kind-join s a b = picked (a + 0x6543210 + 0x10000000 * picked 0x3227 s + 0x100000000 * picked 0x9894544548 a + 0x1000000000 * picked 0x4559 s) b
 
 -- on left contexts: a part with a strong class leaves nothing of what came before it
 abbrev pub left-join : ℕ → ℕ → ℕ
-left-join a b = cond (eqb (b % 4) 0) (fields (a % 4) (side-join (a % 4) (a / 4 % 4) (b / 4 % 4)) (kind-join (a % 4) (a / 16) (b / 16))) b
+left-join a b = cond (eqb (b % 4) 0) (fields (a % 4) (side-join (a % 4) (a / 4 % 4) (b / 4 % 4) % 4) (kind-join (a % 4) (a / 16) (b / 16))) b
 
 -- the bits of the fields in which a does not keep
 abbrev pub mask : ℕ → ℕ

@@ -15,7 +15,7 @@ ghost use Rattle.bidi.specs.Actions.{
   act-left,
   act-right,
 };
-ghost use Rattle.rules.specs.Contexts.{number-side, number-kind, terminated as kind-terminated};
+use rules::Class;
 use rules::First;
 use rules::Kind;
 use rules::Left;
@@ -33,7 +33,7 @@ pub(crate) enum SideEffect {
 }
 
 /// What a part does to the kind of a left context: nothing, a kind of its own, what a European number does,
-/// what a terminator does, or what a number and then a terminator do.
+/// what a terminator does, or what a European number and then a terminator do.
 #[derive(Clone, Copy)]
 pub(crate) enum KindEffect {
     Keep,
@@ -150,52 +150,25 @@ fn right_action(n: u8) -> RightAction
     }
 }
 
-fn side_of_number(strong: Strong) -> Side
-    ensures { λ r. ⌜ r ≡ number-side strong ⌝ }
-{
-    match strong {
-        Strong::L => Side::L,
-        _ => Side::R,
-    }
-}
-
-fn side_after(effect: SideEffect, strong: Strong, side: Side) -> Side
-    ensures { λ r. ⌜ r ≡ act-side effect strong side ⌝ }
+fn side_after(effect: SideEffect, left: Left) -> Side
+    ensures { λ r. ⌜ r ≡ act-side effect left ⌝ }
 {
     match effect {
-        SideEffect::Keep => side,
-        SideEffect::Number => side_of_number(strong),
-        SideEffect::To(s) => s,
+        SideEffect::Keep => left.side,
+        SideEffect::Number => left.after(Class::EN).side,
+        SideEffect::To(side) => side,
     }
 }
 
-fn kind_of_number(strong: Strong) -> Kind
-    ensures { λ r. ⌜ r ≡ number-kind strong ⌝ }
-{
-    match strong {
-        Strong::AL => Kind::Arabic,
-        _ => Kind::European,
-    }
-}
-
-fn terminated(kind: Kind) -> Kind
-    ensures { λ r. ⌜ r ≡ kind-terminated kind ⌝ }
-{
-    match kind {
-        Kind::European | Kind::Joined => Kind::Joined,
-        _ => Kind::Terminator,
-    }
-}
-
-fn kind_after(effect: KindEffect, strong: Strong, kind: Kind) -> Kind
-    ensures { λ r. ⌜ r ≡ act-kind effect strong kind ⌝ }
+fn kind_after(effect: KindEffect, left: Left) -> Kind
+    ensures { λ r. ⌜ r ≡ act-kind effect left ⌝ }
 {
     match effect {
-        KindEffect::Keep => kind,
-        KindEffect::To(k) => k,
-        KindEffect::Number => kind_of_number(strong),
-        KindEffect::Terminator => terminated(kind),
-        KindEffect::NumberTerminator => terminated(kind_of_number(strong)),
+        KindEffect::Keep => left.kind,
+        KindEffect::To(kind) => kind,
+        KindEffect::Number => left.after(Class::EN).kind,
+        KindEffect::Terminator => left.after(Class::ET).kind,
+        KindEffect::NumberTerminator => left.after(Class::EN).after(Class::ET).kind,
     }
 }
 
@@ -206,8 +179,8 @@ pub(crate) fn after_part(action: u8, left: Left) -> Left
     let action = left_action(action);
     Left {
         strong: action.strong.unwrap_or(left.strong),
-        side: side_after(action.side, left.strong, left.side),
-        kind: kind_after(action.kind, left.strong, left.kind),
+        side: side_after(action.side, left),
+        kind: kind_after(action.kind, left),
     }
 }
 

@@ -4,9 +4,7 @@ ghost use Prim.Native.Nat.{_<_};
 ghost use Rattle.bidi.specs.Joins.{
   side-join,
   kind-join,
-  kind-of-number,
-  kind-of-terminator,
-  kind-of-both,
+  picked,
   left-of,
   right-of,
   strong-of,
@@ -59,83 +57,53 @@ pub(crate) fn strong_number(class: Class) -> u8
     }
 }
 
-/// The side after two parts, where `strong` is the first one's strong class.
+/// The k-th of the sixteen small numbers that one number holds.
+fn pick(menu: u64, k: u8) -> u8
+    requires { ⌜ k < 16 ⌝ }
+    ensures is { λ r. ⌜ r ≡ picked menu k ⌝ }
+    ensures within { λ r. ⌜ r < 16 ⌝ }
+{
+    ((menu >> (4 * k as u32)) & 15) as u8
+}
+
+/// The side after two parts, where `strong` is the first one's strong class: the first one's, that of a number, or the second one's.
 fn join_side(strong: u8, a: u8, b: u8) -> u8
     requires { ⌜ strong < 4 ⌝ ∗ ⌜ a < 4 ⌝ ∗ ⌜ b < 4 ⌝ }
     ensures is { λ r. ⌜ r ≡ side-join strong a b ⌝ }
-    ensures within { λ r. ⌜ r < 4 ⌝ }
-{
-    match b {
-        0 => a,
-        1 => { if strong == 3 { 3 } else { strong + 1 } }
-        _ => b,
-    }
-}
-
-/// The kind of a European number after this strong class.
-fn number_kind(strong: u8) -> u8
-    ensures is { λ r. ⌜ r ≡ kind-of-number strong ⌝ }
     ensures within { λ r. ⌜ r < 16 ⌝ }
 {
-    match strong {
-        0 => 7,
-        3 => 3,
-        _ => 2,
-    }
+    let number = pick(0x3321, strong);
+    pick(a as u64 + 16 * number as u64 + 0x3200, b)
 }
 
-/// The kind of a terminator after this kind.
-fn terminator_kind(a: u8) -> u8
-    ensures is { λ r. ⌜ r ≡ kind-of-terminator a ⌝ }
-    ensures within { λ r. ⌜ r < 16 ⌝ }
-{
-    match a {
-        0 => 8,
-        2 => 5,
-        5 => 5,
-        7 => 9,
-        8 => 8,
-        9 => 9,
-        _ => 4,
-    }
-}
-
-/// The kind of a terminator after a European number after this strong class.
-fn both_kind(strong: u8) -> u8
-    ensures is { λ r. ⌜ r ≡ kind-of-both strong ⌝ }
-    ensures within { λ r. ⌜ r < 16 ⌝ }
-{
-    match strong {
-        0 => 9,
-        3 => 4,
-        _ => 5,
-    }
-}
-
-/// The kind after two parts, where `strong` is the first one's strong class.
+/// The kind after two parts, where `strong` is the first one's strong class: the first one's, the second one's own,
+/// that of a number, of a terminator after the first one's, or of a number and then a terminator.
 fn join_kind(strong: u8, a: u8, b: u8) -> u8
-    requires { ⌜ a < 16 ⌝ ∗ ⌜ b < 16 ⌝ }
+    requires { ⌜ strong < 4 ⌝ ∗ ⌜ a < 16 ⌝ ∗ ⌜ b < 16 ⌝ }
     ensures is { λ r. ⌜ r ≡ kind-join strong a b ⌝ }
     ensures within { λ r. ⌜ r < 16 ⌝ }
 {
-    match b {
-        0 => a,
-        7 => number_kind(strong),
-        8 => terminator_kind(a),
-        9 => both_kind(strong),
-        _ => b,
-    }
+    let number = pick(0x3227, strong);
+    let terminator = pick(0x98_9454_4548, a);
+    let both = pick(0x4559, strong);
+    pick(
+        a as u64
+            + 0x0654_3210
+            + 0x1000_0000 * number as u64
+            + 0x1_0000_0000 * terminator as u64
+            + 0x10_0000_0000 * both as u64,
+        b,
+    )
 }
 
 /// The action of two parts on left contexts. A part with a strong class leaves nothing of what came before it.
 pub(crate) fn join_left(a: u8, b: u8) -> u8
     ensures { λ r. ⌜ r ≡ left-join a b ⌝ }
 {
-    if b % 4 == 0 {
-        a % 4 + 4 * join_side(a % 4, a / 4 % 4, b / 4 % 4) + 16 * join_kind(a % 4, a / 16, b / 16)
-    } else {
-        b
-    }
+    let side = join_side(a % 4, a / 4 % 4, b / 4 % 4);
+    let kind = join_kind(a % 4, a / 16, b / 16);
+    let both = a % 4 + 4 * (side % 4) + 16 * kind;
+    if b % 4 == 0 { both } else { b }
 }
 
 /// The action of two parts on right contexts: the fields of the first, and the second's where the first keeps.

@@ -1,0 +1,1 @@
+//! Worked edits of a paragraph.
