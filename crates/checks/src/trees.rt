@@ -9,7 +9,10 @@ use tree::row::Row;
 use tree::tree::Tree;
 
 fn item(width: u8) -> Item {
-    Item { class: Class::L, width }
+    Item {
+        class: Class::L,
+        width,
+    }
 }
 
 /// The number of a refusal, or 0.

@@ -14,10 +14,10 @@ ghost use Rattle.paragraph.specs.Faults.{numbered};
 ghost use Rattle.paragraph.specs.Paragraphs.{items-of, base-in, levels-in};
 use crate::fault::ParagraphFault;
 use crate::paragraph::Paragraph;
-use rules::Side;
-use rules::contexts::level;
 use bidi::measures::ColumnsMeasure;
 use bidi::measures::ContextsMeasure;
+use rules::Side;
+use rules::contexts::level;
 use tree::pair::PairMeasure;
 
 impl Paragraph<'_, '_> {

@@ -10,9 +10,9 @@ ghost use Rattle.paragraph.specs.Faults.{numbered};
 ghost use Rattle.paragraph.specs.Paragraphs.{items-of, base-in, levels-in};
 use crate::fault::ParagraphFault;
 use crate::paragraph::Paragraph;
-use rules::Side;
 use bidi::measures::ColumnsMeasure;
 use bidi::measures::ContextsMeasure;
+use rules::Side;
 use tree::pair::PairMeasure;
 
 impl Paragraph<'_, '_> {

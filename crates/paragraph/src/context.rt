@@ -12,14 +12,14 @@ ghost use Rattle.paragraph.specs.Paragraphs.{items-of, base-in};
 ghost use Rattle.paragraph.specs.Steps.{left as left-along, right as right-along, none};
 ghost use Rattle.paragraph.specs.Edges.{edges as edges-of};
 use crate::paragraph::Paragraph;
-use bidi::contexts::Contexts;
 use crate::span::Edges;
+use bidi::contexts::Contexts;
+use bidi::measures::ColumnsMeasure;
+use bidi::measures::ContextsMeasure;
 use rules::Class;
 use rules::Left;
 use rules::Right;
 use rules::Side;
-use bidi::measures::ColumnsMeasure;
-use bidi::measures::ContextsMeasure;
 use tree::pair::PairMeasure;
 
 impl Paragraph<'_, '_> {
@@ -93,6 +93,10 @@ impl Paragraph<'_, '_> {
         requires within { ⌜ end ≤ length (items-of (now self)) ⌝ }
         ensures { λ r. ⌜ r ≡ edges-of base (classes (items-of (now (self .entry)))) first end ⌝ }
     {
-        Edges { base, right: self.right_at(base, first), left: self.left_at(base, end) }
+        Edges {
+            base,
+            right: self.right_at(base, first),
+            left: self.left_at(base, end),
+        }
     }
 }

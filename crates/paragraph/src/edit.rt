@@ -21,12 +21,12 @@ use crate::paragraph::Paragraph;
 use crate::paragraph::Total;
 use crate::span::Edges;
 use bidi::item::Item;
-use rules::Direction;
-use tree::tree::Tree;
 use bidi::measures::ColumnsMeasure;
 use bidi::measures::ContextsMeasure;
+use rules::Direction;
 use rules::classes::SidePartialEq;
 use tree::pair::PairMeasure;
+use tree::tree::Tree;
 
 /// Refuses items wider than two columns, by the position of the first.
 fn narrow_all(items: &[Item]) -> Result<(), ParagraphFault>
@@ -63,7 +63,11 @@ impl<'t, 'a> Paragraph<'t, 'a> {
         } else {
             self.span_by_scan(place, count, was, is)
         };
-        Outcome { count: self.tree.len(), base: base.level(), span }
+        Outcome {
+            count: self.tree.len(),
+            base: base.level(),
+            span,
+        }
     }
 
     /// Sets the direction.
@@ -79,7 +83,12 @@ impl<'t, 'a> Paragraph<'t, 'a> {
     }
 
     /// Replaces `removed` items from a place on by new ones. Items that are given are new, even if equal to the removed ones.
-    pub fn edit(&mut self, place: usize, removed: usize, items: &[Item]) -> Result<Outcome, ParagraphFault>
+    pub fn edit(
+        &mut self,
+        place: usize,
+        removed: usize,
+        items: &[Item],
+    ) -> Result<Outcome, ParagraphFault>
         ensures answer { λ r. ⌜ verdict r ≡ edit-answer (room-of (now (self .entry))) (items-of (now (self .entry))) place removed (now (items .entry)) ⌝ }
         ensures items { λ _. ⌜ items-of (now (self .exit)) ≡ after-edit (room-of (now (self .entry))) (items-of (now (self .entry))) place removed (now (items .entry)) ⌝ }
         ensures direction { λ _. ⌜ now (self .exit) .direction ≡ now (self .entry) .direction ⌝ }

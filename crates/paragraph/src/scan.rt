@@ -13,9 +13,9 @@ ghost use Rattle.paragraph.specs.Steps.{level-in};
 use crate::paragraph::Paragraph;
 use crate::span::Edges;
 use crate::span::Span;
-use rules::contexts::level;
 use bidi::measures::ColumnsMeasure;
 use bidi::measures::ContextsMeasure;
+use rules::contexts::level;
 use tree::pair::PairMeasure;
 
 impl Paragraph<'_, '_> {
@@ -26,7 +26,12 @@ impl Paragraph<'_, '_> {
         ensures { λ r. ⌜ r ≡ level-in (edges .base) (left-start (edges .base)) (edges .right) (take place (classes (items-of (now (self .entry))))) i ⌝ }
     {
         let right = self.right_before(edges.right, i + 1, place);
-        level(edges.base, self.left_at(edges.base, i), self.class_at(i), right)
+        level(
+            edges.base,
+            self.left_at(edges.base, i),
+            self.class_at(i),
+            right,
+        )
     }
 
     /// The level of an item behind a change, as the right edge of the change saw it.
@@ -36,7 +41,12 @@ impl Paragraph<'_, '_> {
         ensures { λ r. ⌜ r ≡ level-in (edges .base) (edges .left) (right-end (edges .base)) (drop from (classes (items-of (now (self .entry))))) (i - from) ⌝ }
     {
         let left = self.left_after(edges.left, from, i);
-        level(edges.base, left, self.class_at(i), self.right_at(edges.base, i + 1))
+        level(
+            edges.base,
+            left,
+            self.class_at(i),
+            self.right_at(edges.base, i + 1),
+        )
     }
 
     /// Whether a place has a new item or another level.
@@ -83,7 +93,13 @@ impl Paragraph<'_, '_> {
     }
 
     /// The span of a change from the items after it and what its edges saw before it and see now.
-    pub(crate) fn span_by_scan(&self, place: usize, count: usize, was: Edges, is: Edges) -> Option<Span>
+    pub(crate) fn span_by_scan(
+        &self,
+        place: usize,
+        count: usize,
+        was: Edges,
+        is: Edges,
+    ) -> Option<Span>
         requires { ⌜ place + count ≤ length (items-of (now self)) ⌝ }
         ensures { λ r. ⌜ Span-of (Changed-by was is (classes (items-of (now (self .entry)))) place count) r ⌝ }
     {
@@ -93,6 +109,9 @@ impl Paragraph<'_, '_> {
         let Some(last) = self.last_changed(place, count, was, is) else {
             return None;
         };
-        Some(Span { first, end: last + 1 })
+        Some(Span {
+            first,
+            end: last + 1,
+        })
     }
 }

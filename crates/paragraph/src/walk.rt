@@ -12,14 +12,14 @@ use crate::paragraph::Paragraph;
 use crate::span::Edges;
 use crate::span::Span;
 use crate::span::hull;
+use bidi::measures::ColumnsMeasure;
+use bidi::measures::ContextsMeasure;
 use rules::Left;
 use rules::Right;
 use rules::Side;
-use rules::contexts::level;
-use bidi::measures::ColumnsMeasure;
-use bidi::measures::ContextsMeasure;
 use rules::contexts::LeftPartialEq;
 use rules::contexts::RightPartialEq;
+use rules::contexts::level;
 use tree::pair::PairMeasure;
 
 impl Paragraph<'_, '_> {
@@ -37,7 +37,13 @@ impl Paragraph<'_, '_> {
             let class = self.class_at(i);
             let left = self.left_at(base, i);
             if level(base, left, class, old) != level(base, left, class, new) {
-                found = hull(Some(Span { first: i, end: i + 1 }), found);
+                found = hull(
+                    Some(Span {
+                        first: i,
+                        end: i + 1,
+                    }),
+                    found,
+                );
             }
             old = old.before(class);
             new = new.before(class);
@@ -59,7 +65,13 @@ impl Paragraph<'_, '_> {
             let class = self.class_at(j);
             let right = self.right_at(base, j + 1);
             if level(base, old, class, right) != level(base, new, class, right) {
-                found = hull(Some(Span { first: j, end: j + 1 }), found);
+                found = hull(
+                    Some(Span {
+                        first: j,
+                        end: j + 1,
+                    }),
+                    found,
+                );
             }
             old = old.after(class);
             new = new.after(class);
@@ -69,12 +81,25 @@ impl Paragraph<'_, '_> {
     }
 
     /// The span of a change from the items after it and what its edges saw before it and see now, under one base direction.
-    pub(crate) fn span_by_walk(&self, place: usize, count: usize, was: Edges, is: Edges) -> Option<Span>
+    pub(crate) fn span_by_walk(
+        &self,
+        place: usize,
+        count: usize,
+        was: Edges,
+        is: Edges,
+    ) -> Option<Span>
         requires within { ⌜ place + count ≤ length (items-of (now self)) ⌝ }
         requires base { ⌜ was .base ≡ is .base ⌝ }
         ensures { λ r. ⌜ Span-of (Changed-by was is (classes (items-of (now (self .entry)))) place count) r ⌝ }
     {
-        let given = if count == 0 { None } else { Some(Span { first: place, end: place + count }) };
+        let given = if count == 0 {
+            None
+        } else {
+            Some(Span {
+                first: place,
+                end: place + count,
+            })
+        };
         let before = self.walk_before(place, was.base, was.right, is.right);
         let behind = self.walk_behind(place + count, was.base, was.left, is.left);
         hull(given, hull(before, behind))

@@ -100,6 +100,6 @@ returns c =
         count = c .outcome .ensures .count;
         base = c .outcome .ensures .base;
         span = span-of-change (p .direction) (p .direction) items new _ place removed (omega arith) change (c .edges-was .result) _
-          (c .edges-was .ensures ∙ ap (λ b. edges b (classes items) place (place + removed)) (c .base .ensures)) refl _ (c .outcome .ensures .span);
+            (c .edges-was .ensures ∙ ap (λ b. edges b (classes items) place (place + removed)) (c .base .ensures)) refl _ (c .outcome .ensures .span);
       };
     }

@@ -29,8 +29,8 @@ returns-in-Ok c =
     let h = r .0 in
     record {
       answer =
-        (λ t. Ok (c .level-at .ensures t, r .1 t))
-        ∙ sym (cond-true (ltb place (length (levels-in p))) (Ok (at (levels-in p) place, depth)) _ (lt-ltb place (length (levels-in p)) (omega arith)));
+          (λ t. Ok (c .level-at .ensures t, r .1 t))
+          ∙ sym (cond-true (ltb place (length (levels-in p))) (Ok (at (levels-in p) place, depth)) _ (lt-ltb place (length (levels-in p)) (omega arith)));
       deep = c .in-Ok .ensures tt .deep;
     }
 

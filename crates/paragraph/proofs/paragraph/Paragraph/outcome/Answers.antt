@@ -16,10 +16,10 @@ returns c =
     let count = c .args .count in
     let was = c .args .was in
     let told : Span-of (Changed-by was (c .edges-is .result) cs place count) (c .if-eq .span) =
-      elim (c .if-eq .came) [
-        | then-eq w ↦ subst (Span-of (Changed-by was (c .edges-is .result) cs place count)) (sym (w .span-is)) (w .span-by-walk-span .ensures)
-        | else-eq w ↦ subst (Span-of (Changed-by was (c .edges-is .result) cs place count)) (sym (w .span-is)) (w .span-by-scan-span .ensures)
-      ] in
+    elim (c .if-eq .came) [
+      | then-eq w ↦ subst (Span-of (Changed-by was (c .edges-is .result) cs place count)) (sym (w .span-is)) (w .span-by-walk-span .ensures)
+      | else-eq w ↦ subst (Span-of (Changed-by was (c .edges-is .result) cs place count)) (sym (w .span-is)) (w .span-by-scan-span .ensures)
+    ] in
     record {
       count = c .len .ensures .count;
       base = c .level .ensures ∙ ap base-level (c .base-base .ensures);

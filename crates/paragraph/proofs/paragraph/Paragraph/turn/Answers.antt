@@ -19,6 +19,6 @@ returns c =
         count = c .outcome .ensures .count;
         base = c .outcome .ensures .base;
         span = span-of-change (p .direction) (c .args .direction) items [] items 0 0 (omega arith) refl (c .edges-was .result) _
-          (c .edges-was .ensures ∙ ap (λ b. edges b (classes items) 0 0) (c .base .ensures)) refl _ (c .outcome .ensures .span);
+            (c .edges-was .ensures ∙ ap (λ b. edges b (classes items) 0 0) (c .base .ensures)) refl _ (c .outcome .ensures .span);
       };
     }
