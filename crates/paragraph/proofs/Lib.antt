@@ -10,3 +10,4 @@ pub mod Levels
 pub mod Edits
 pub mod Widths
 pub mod Around
+pub mod Orders

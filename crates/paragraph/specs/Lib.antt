@@ -7,3 +7,4 @@ pub mod Plain
 pub mod Paragraphs
 pub mod Outcomes
 pub mod Asking
+pub mod Ordering

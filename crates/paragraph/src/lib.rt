@@ -5,6 +5,7 @@ mod column;
 mod context;
 mod edit;
 pub mod fault;
+mod order;
 pub mod outcome;
 pub mod paragraph;
 mod scan;
