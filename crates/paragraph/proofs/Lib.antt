@@ -11,3 +11,4 @@ pub mod Edits
 pub mod Widths
 pub mod Around
 pub mod Orders
+pub mod Uniqueness

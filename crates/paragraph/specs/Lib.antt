@@ -8,3 +8,4 @@ pub mod Paragraphs
 pub mod Outcomes
 pub mod Asking
 pub mod Ordering
+pub mod Runs

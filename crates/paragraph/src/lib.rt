@@ -8,6 +8,7 @@ pub mod fault;
 mod order;
 pub mod outcome;
 pub mod paragraph;
+pub mod run;
 mod scan;
 pub mod span;
 mod walk;
