@@ -37,9 +37,11 @@ class-of n = by-code n 76 (Some L) (by-code n 82 (Some R) (by-code n 65 (Some AL
 abbrev pub Reading : Type 0
 Reading = Class × ℕ
 
+-- that of an item
 abbrev pub reading : Item → Reading
 reading i = (i .class, i .width)
 
+-- a class with a width, where there is one
 abbrev pub with-width : ℕ → Option Class → Option Reading
 with-width w None = None
 with-width w (Some c) = Some (c, w)

@@ -12,6 +12,7 @@ use Rattle.rules.specs.Rules.{base-direction, base-level, levels}
 abbrev pub levels-in : Direction → List Class → List ℕ
 levels-in d cs = levels (base-direction d cs) cs
 
+-- twelve paragraphs
 abbrev pub Worked : Type 0
 Worked =
     (base-level (base-direction FirstStrong []) ≡ 0)
