@@ -8,3 +8,7 @@ pub mod Balancing
 pub mod Totals
 pub mod Removing
 pub mod Shrinking
+pub mod Wholes
+pub mod Depths
+pub mod Facts
+pub mod Plains

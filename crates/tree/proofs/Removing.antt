@@ -15,7 +15,7 @@ use Rattle.tree.specs.declared.row.Row.{Row}
 use Rattle.tree.specs.Measures.{Operations}
 use Rattle.tree.specs.Shapes.{Shape, leaf, node, top, tall, size, Under, uses, one, Rep, elements}
 use Rattle.tree.specs.Surgery.{joined, Split, Becomes, Loose, Sides, rebalanced, past, rest, merged, removed-at, last-row, last-of, row-in}
-use Rattle.tree.specs.Removals.{Removes}
+use Rattle.tree.specs.Changes.{Removes}
 use Rattle.tree.specs.declared.remove.Detached.{Detached}
 use Rattle.tree.proofs.Held.{Opened, opened, nth-within, nth-left, nth-right, length-elements}
 use Rattle.tree.proofs.Writing.{spared, after, one-here, one-else}
@@ -88,7 +88,7 @@ module _ {E T : Type 0} (k : Operations E T) where
         (sym (ap (last-row n) (o .is) ∙ h .1), sym (ap (last-of d) (o .is) ∙ h .2))
 
 -- a row in use lies within the rows
-used-within : {E T : Type 0} (rows : List (Row E T)) (s : Shape E T) (n : ℕ) → Rep rows s → 0 < uses s n → n < length rows
+pub used-within : {E T : Type 0} (rows : List (Row E T)) (s : Shape E T) (n : ℕ) → Rep rows s → 0 < uses s n → n < length rows
 used-within rows leaf n h p = absurd (omega arith)
 used-within rows (node a i e t b) n h p =
     ⊎-elim (λ q. used-within rows a n (h .1) q)

@@ -8,6 +8,7 @@ use native.Mathlib.Omega.{arith}
 use lib.ListN.{length, take, drop}
 use lib.Dec.{ltb, leb, eqb}
 use Rattle.std.proofs.shelf.Tests.{ltb-true, ltb-false, eqb-true, eqb-false, cond-both, cases-lt}
+use Rattle.std.specs.shelf.Lists.{removed}
 use Rattle.tree.specs.Measures.{Operations}
 use Rattle.tree.specs.Shapes.{Shape, leaf, node, tall, size, elements, top-total, Totalled, Balanced}
 use Rattle.tree.specs.Surgery.{joined, rebalanced, rest, merged, removed-at, last-row, last-of}
@@ -15,25 +16,20 @@ use Rattle.tree.proofs.Held.{length-elements}
 use Rattle.tree.proofs.Shaping.{Alike, alike, totalled-rebalanced}
 use Rattle.tree.proofs.Balancing.{Levelled, levelled}
 
-abbrev pub without : {X : Type 0} → List X → ℕ → List X
-without [] i = []
-without (x ∷ xs) zero = xs
-without (x ∷ xs) (suc i) = x ∷ without xs i
-
-out-left : {X : Type 0} (xs ys : List X) (i : ℕ) → i < length xs → without (xs ++ ys) i ≡ without xs i ++ ys
+out-left : {X : Type 0} (xs ys : List X) (i : ℕ) → i < length xs → removed (xs ++ ys) i ≡ removed xs i ++ ys
 out-left [] ys i h = absurd (omega arith)
 out-left (x ∷ xs) ys zero h = refl
 out-left (x ∷ xs) ys (suc i) h = ap (λ l. x ∷ l) (out-left xs ys i (omega arith))
 
-out-here : {X : Type 0} (xs ys : List X) (y : X) (i : ℕ) → i ≡ length xs → without (xs ++ (y ∷ ys)) i ≡ xs ++ ys
+out-here : {X : Type 0} (xs ys : List X) (y : X) (i : ℕ) → i ≡ length xs → removed (xs ++ (y ∷ ys)) i ≡ xs ++ ys
 out-here [] ys y zero h = refl
 out-here [] ys y (suc i) h = absurd (omega arith)
 out-here (x ∷ xs) ys y zero h = absurd (omega arith)
 out-here (x ∷ xs) ys y (suc i) h = ap (λ l. x ∷ l) (out-here xs ys y i (omega arith))
 
-out-right : {X : Type 0} (xs ys : List X) (y : X) (i j : ℕ) → i ≡ length xs + 1 + j → without (xs ++ (y ∷ ys)) i ≡ xs ++ (y ∷ without ys j)
+out-right : {X : Type 0} (xs ys : List X) (y : X) (i j : ℕ) → i ≡ length xs + 1 + j → removed (xs ++ (y ∷ ys)) i ≡ xs ++ (y ∷ removed ys j)
 out-right [] ys y zero j h = absurd (omega arith)
-out-right [] ys y (suc i) j h = let e : i ≡ j = omega arith in ap (λ n. y ∷ without ys n) e
+out-right [] ys y (suc i) j h = let e : i ≡ j = omega arith in ap (λ n. y ∷ removed ys n) e
 out-right (x ∷ xs) ys y zero j h = absurd (omega arith)
 out-right (x ∷ xs) ys y (suc i) j h = ap (λ l. x ∷ l) (out-right xs ys y i j (omega arith))
 
@@ -66,11 +62,11 @@ module _ {E T : Type 0} (k : Operations E T) where
       alike k (rest k (node a i e t c)) (last-row i c) (last-of e c) b .list
       ∙ sym (append-assoc (elements (rest k (node a i e t c))) (last-of e c ∷ []) (elements b)) ∙ ap (λ l. l ++ elements b) (list-rest a i e t c)
 
-  pub list-out : (s : Shape E T) (p : ℕ) → p < size s → elements (removed-at k s p) ≡ without (elements s) p
+  pub list-out : (s : Shape E T) (p : ℕ) → p < size s → elements (removed-at k s p) ≡ removed (elements s) p
   list-out leaf p h = absurd (omega arith)
   list-out (node a i e t b) p h =
       let n = length-elements a in
-      let P : Shape E T → Type 0 = λ y. elements y ≡ without (elements (node a i e t b)) p in
+      let P : Shape E T → Type 0 = λ y. elements y ≡ removed (elements (node a i e t b)) p in
       cond-both (ltb p (size a)) _ _ P
       (λ q. let q′ = ltb-true p (size a) q in alike k (removed-at k a p) i e b .list ∙ ap (λ l. l ++ (e ∷ elements b)) (list-out a p q′) ∙ sym (out-left (elements a) (e ∷ elements b) p (omega arith)))
       (λ q. let q′ = ltb-false p (size a) q in cond-both (eqb p (size a)) _ _ P
@@ -123,3 +119,19 @@ module _ {E T : Type 0} (k : Operations E T) where
       let z = shrink (tall (removed-at k b (p - size a - 1))) (tall a) (tall b) (tall (rebalanced k a i e (removed-at k b (p - size a - 1)))) (λ x y. let w = l .same y x in omega arith) (omega arith) (omega arith) (omega arith) (omega arith) (omega arith) (omega arith) in
       let z0 = z .0 in let z1 = z .1 in
       record { balance = l .balance; high = omega arith; low = omega arith }))
+
+  -- the totals stay right
+  totalled-rest : (s : Shape E T) → Totalled k s → Totalled k (rest k s)
+  totalled-rest leaf h = tt
+  totalled-rest (node a i e t leaf) h = h .1
+  totalled-rest (node a i e t (node c j f u g)) h = totalled-rebalanced k a i e _ (h .1) (totalled-rest (node c j f u g) (h .2))
+
+  totalled-merged : (a b : Shape E T) → Totalled k a → Totalled k b → Totalled k (merged k a b)
+  totalled-merged leaf b h h′ = h′
+  totalled-merged (node a i e t c) b h h′ = totalled-rebalanced k _ (last-row i c) (last-of e c) b (totalled-rest (node a i e t c) h) h′
+
+  pub totalled-out : (s : Shape E T) (p : ℕ) → Totalled k s → Totalled k (removed-at k s p)
+  totalled-out leaf p h = tt
+  totalled-out (node a i e t b) p h =
+      cond-both (ltb p (size a)) _ _ (Totalled k) (λ _. totalled-rebalanced k _ i e b (totalled-out a p (h .1)) (h .2))
+      (λ _. cond-both (eqb p (size a)) _ _ (Totalled k) (λ _. totalled-merged a b (h .1) (h .2)) (λ _. totalled-rebalanced k a i e _ (h .1) (totalled-out b (p - size a - 1) (h .2))))

@@ -2,6 +2,6 @@ pub mod Measures
 pub mod Pairs
 pub mod Shapes
 pub mod Surgery
-pub mod Removals
+pub mod Changes
 pub mod Plain
 pub mod Trees

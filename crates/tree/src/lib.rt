@@ -2,10 +2,12 @@
 
 mod balance;
 mod below;
+mod calls;
 pub mod fault;
 mod insert;
 pub mod measure;
 pub mod pair;
+mod pool;
 mod remove;
 pub mod row;
 pub mod tree;

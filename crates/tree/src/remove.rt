@@ -5,7 +5,7 @@ ghost use Prim.Native.Nat.{ℕ, _<_};
 ghost use Rattle.std.specs.declared.option.Option.the-variants.{Some};
 ghost use Rattle.tree.specs.Shapes.{Shape, size};
 ghost use Rattle.tree.specs.Surgery.{Loose, Sides, Becomes, rest as without-last, merged, last-row, last-of};
-ghost use Rattle.tree.specs.Removals.{Removes};
+ghost use Rattle.tree.specs.Changes.{Removes};
 use crate::balance::rebalance;
 use crate::below::row_at;
 use crate::below::size_of;

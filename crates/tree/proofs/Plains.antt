@@ -1,0 +1,41 @@
+-- What the plain list answers, case by case, and what it then holds.
+use mathlib.Core.Path.{_≡_, refl, sym, ap, _∙_}
+use mathlib.Core.List.{List}
+use mathlib.Core.Bool.{cond}
+use native.Mathlib.Omega.{arith}
+use Prim.Native.Nat.{ℕ, _+_, _-_, _≤_, _<_}
+use lib.ListN.{length}
+use lib.Dec.{ltb, leb}
+use Rattle.std.specs.Finite.{nth}
+use Rattle.std.specs.shelf.Lists.{inserted, removed}
+use Rattle.std.proofs.shelf.Maps.{nth-past}
+use Rattle.std.proofs.shelf.Tests.{lt-ltb, le-ltb, le-leb, lt-leb, cond-true, cond-false}
+use Rattle.std.specs.declared.option.Option.the-variants.{Some}
+use Rattle.std.specs.declared.result.Result.the-variants.{Ok, Err}
+use Rattle.tree.specs.Plain.{accepted, found, with-depth, insert-answer, after-insert, remove-answer, after-remove}
+
+module _ {E : Type 0} (room : ℕ) (xs : List E) (p : ℕ) (x : E) where
+  pub insert-no-place : length xs < p → (Err 1 ≡ insert-answer room xs p) × (xs ≡ after-insert room xs p x)
+  insert-no-place h =
+      let a = cond-true (ltb (length xs) p) (Err 1) _ (lt-ltb (length xs) p h) in
+      (sym a, sym (ap (λ r. accepted r (inserted xs p x) xs) a))
+
+  pub insert-full : p ≤ length xs → room ≤ length xs → (Err 2 ≡ insert-answer room xs p) × (xs ≡ after-insert room xs p x)
+  insert-full h h′ =
+      let a = cond-false (ltb (length xs) p) (Err 1) _ (le-ltb (length xs) p h) ∙ cond-true (leb room (length xs)) (Err 2) (Ok tt) (le-leb room (length xs) h′) in
+      (sym a, sym (ap (λ r. accepted r (inserted xs p x) xs) a))
+
+  pub insert-fits : p ≤ length xs → length xs < room → (Ok tt ≡ insert-answer room xs p) × (inserted xs p x ≡ after-insert room xs p x)
+  insert-fits h h′ =
+      let a = cond-false (ltb (length xs) p) (Err 1) _ (le-ltb (length xs) p h) ∙ cond-false (leb room (length xs)) (Err 2) (Ok tt) (lt-leb room (length xs) h′) in
+      (sym a, sym (ap (λ r. accepted r (inserted xs p x) xs) a))
+
+module _ {E : Type 0} (xs : List E) (p : ℕ) where
+  pub remove-no-place : length xs ≤ p → (Err 1 ≡ remove-answer xs p) × (xs ≡ after-remove xs p)
+  remove-no-place h = let a = ap found (nth-past xs p h) in (sym a, sym (ap (λ r. accepted r (removed xs p) xs) a))
+
+  pub remove-found : (x : E) → nth xs p ≡ Some x → (Ok x ≡ remove-answer xs p) × (removed xs p ≡ after-remove xs p)
+  remove-found x h = let a = ap found h in (sym a, sym (ap (λ r. accepted r (removed xs p) xs) a))
+
+  pub read-found : (x : E) (d e : ℕ) → nth xs p ≡ Some x → d ≡ e → Ok (x, e) ≡ with-depth d (found (nth xs p))
+  read-found x d e h is = sym (ap (λ o. with-depth d (found o)) h ∙ ap (λ n. Ok (x, n)) is)
