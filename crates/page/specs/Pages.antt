@@ -1,7 +1,7 @@
 -- The plain list of entries: what it answers to each call of a page, and what it then holds.
 use mathlib.Core.Bool.{cond}
 use mathlib.Core.List.{List, [], _∷_}
-use Prim.Native.Nat.{ℕ, _-_}
+use Prim.Native.Nat.{ℕ, _+_, _-_}
 use denote.Ref.{now}
 use lib.Dec.{ltb}
 use Rattle.std.specs.shelf.Lists.{inserted}
@@ -39,3 +39,12 @@ after-put room xs place key lines hits = accepted (put-answer room xs place line
 abbrev pub find-answer : List Entry → ℕ → Result Entry ℕ
 find-answer [] line = Err 4
 find-answer (x ∷ xs) line = cond (ltb line (x .lines)) (Ok x) (find-answer xs (line - x .lines))
+
+-- the lines and the hits of all entries
+abbrev pub lines-of : List Entry → ℕ
+lines-of [] = 0
+lines-of (x ∷ xs) = x .lines + lines-of xs
+
+abbrev pub hits-of : List Entry → ℕ
+hits-of [] = 0
+hits-of (x ∷ xs) = x .hits + hits-of xs
