@@ -10,16 +10,21 @@ use Rattle.std.specs.Finite.{nth}
 use Rattle.std.specs.shelf.Lists.{inserted, removed}
 use Rattle.std.specs.declared.option.Option.{Option}
 use Rattle.std.specs.declared.option.Option.the-variants.{Some, None}
-use Rattle.tree.specs.Measures.{Operations}
-use Rattle.tree.specs.Shapes.{Shape, size, elements, depth, Totalled, Sound, shape-of}
-use Rattle.tree.specs.Surgery.{inserted-at, removed-at}
+use Rattle.tree.specs.Measures.{Operations, Laws, unit, total-of}
+use Rattle.tree.specs.Plain.{first-over}
+use Rattle.tree.specs.Shapes.{Shape, size, elements, depth, top-total, Totalled, Sound, shape-of}
+use Rattle.tree.specs.Surgery.{part-of, inserted-at, removed-at}
+use Rattle.tree.specs.Weights.{over, weight-of}
 use Rattle.tree.specs.Changes.{Insertion, Removal}
 use Rattle.tree.specs.Trees.{least, places-at}
 use Rattle.tree.specs.declared.row.Row.{Row}
 use Rattle.tree.specs.declared.row.Heads.{Heads}
+use Rattle.tree.specs.declared.row.Part.{Part}
 use Rattle.tree.proofs.Held.{length-elements}
 use Rattle.tree.proofs.Shaping.{list-put, totalled-insert}
 use Rattle.tree.proofs.Shrinking.{list-out, totalled-out}
+use Rattle.tree.proofs.Totals.{mark-is}
+use Rattle.tree.proofs.Weighing.{over-first}
 use Rattle.tree.proofs.Depths.{least-at, sparse}
 use Rattle.tree.proofs.Wholes.{whole-shape, totalled-prop, as-list, from-list}
 
@@ -90,3 +95,31 @@ module _ {E T : Type 0} (k : Operations E T) {old rows : List (Row E T)} {was is
 
   pub found-removed : IsSet E → Removal k old rows was is place x → nth (elements (shape-in old was)) place ≡ Some x
   found-removed is-set t = found-is {rows = old} is-set some place x (λ w. t (w .0) (w .1) (w .2) .1)
+
+module _ {E T : Type 0} {k : Operations E T} (laws : Laws k) {rows : List (Row E T)} {h : Heads} (some : Stands rows h) (t : Totalled k (shape-in rows h)) where
+  few-elements : length (elements (shape-in rows h)) ≤ 4096
+  few-elements = ∥∥₁-elim some le-prop (λ w.
+      let a = ap (λ s. length (elements s)) (whole-shape (w .0) (w .2)) in
+      let b = length-elements (w .0) in
+      let c = w .2 .under .few in
+      omega arith)
+
+  -- the weight that the root stores is that of all elements
+  pub weight-in : (p : Part T) → ((w : Sound rows (h .root) (h .free) (h .used) (h .count)) → p ≡ part-of k (w .0)) → k .weight (p .total) ≡ k .weight (total-of k (elements (shape-in rows h)))
+  weight-in p all =
+      let same : (w : Sound rows (h .root) (h .free) (h .used) (h .count)) → k .weight (p .total) ≡ k .weight (top-total k (shape-in rows h)) =
+      λ w. ap (λ x. k .weight (x .total)) (all w) ∙ ap (λ s. k .weight (top-total k s)) (sym (whole-shape (w .0) (w .2))) in
+      let le : k .weight (p .total) ≤ k .weight (top-total k (shape-in rows h)) = ∥∥₁-elim some le-prop (λ w. let e = same w in omega arith) in
+      let ge : k .weight (top-total k (shape-in rows h)) ≤ k .weight (p .total) = ∥∥₁-elim some le-prop (λ w. let e = same w in omega arith) in
+      let e = ap (k .weight) (mark-is laws (shape-in rows h) t) in
+      omega arith
+
+  -- the place that was sought by single weights is the first whose elements up to it weigh more
+  pub place-in : (w r : ℕ) → ((x : Sound rows (h .root) (h .free) (h .used) (h .count)) → Totalled k (x .0) → r ≡ over (weight-of k) w (elements (x .0))) → r ≡ first-over k w (k .unit) (elements (shape-in rows h))
+  place-in w r all =
+      let z = laws .none in
+      let n = few-elements in
+      let a : over (weight-of k) w (elements (shape-in rows h)) ≡ r = number-is {h = h} some (λ s. over (weight-of k) w (elements s)) r (λ x. sym (all x (subst (Totalled k) (whole-shape (x .0) (x .2)) t))) in
+      let b = over-first laws w (k .unit) (elements (shape-in rows h)) unit (omega arith) (omega arith) in
+      let e : w - k .weight (k .unit) ≡ w = omega arith in
+      sym (b ∙ ap (λ m. over (weight-of k) m (elements (shape-in rows h))) e ∙ a)

@@ -12,3 +12,6 @@ pub mod Wholes
 pub mod Depths
 pub mod Facts
 pub mod Plains
+pub mod Stretches
+pub mod Weighing
+pub mod Seeking

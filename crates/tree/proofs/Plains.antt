@@ -1,7 +1,7 @@
 -- What the plain list answers, case by case, and what it then holds.
 use mathlib.Core.Path.{_≡_, refl, sym, ap, _∙_}
 use mathlib.Core.List.{List}
-use mathlib.Core.Bool.{cond}
+use mathlib.Core.Bool.{true, false, cond}
 use native.Mathlib.Omega.{arith}
 use Prim.Native.Nat.{ℕ, _+_, _-_, _≤_, _<_}
 use lib.ListN.{length}
@@ -9,10 +9,10 @@ use lib.Dec.{ltb, leb}
 use Rattle.std.specs.Finite.{nth}
 use Rattle.std.specs.shelf.Lists.{inserted, removed}
 use Rattle.std.proofs.shelf.Maps.{nth-past}
-use Rattle.std.proofs.shelf.Tests.{lt-ltb, le-ltb, le-leb, lt-leb, cond-true, cond-false}
+use Rattle.std.proofs.shelf.Tests.{lt-ltb, le-ltb, le-leb, lt-leb, cond-true, cond-false, and-left, and-right, and-from}
 use Rattle.std.specs.declared.option.Option.the-variants.{Some}
 use Rattle.std.specs.declared.result.Result.the-variants.{Ok, Err}
-use Rattle.tree.specs.Plain.{accepted, found, with-depth, insert-answer, after-insert, remove-answer, after-remove}
+use Rattle.tree.specs.Plain.{accepted, found, with-depth, fits, insert-answer, after-insert, remove-answer, after-remove}
 
 module _ {E : Type 0} (room : ℕ) (xs : List E) (p : ℕ) (x : E) where
   pub insert-no-place : length xs < p → (Err 1 ≡ insert-answer room xs p) × (xs ≡ after-insert room xs p x)
@@ -39,3 +39,13 @@ module _ {E : Type 0} (xs : List E) (p : ℕ) where
 
   pub read-found : (x : E) (d e : ℕ) → nth xs p ≡ Some x → d ≡ e → Ok (x, e) ≡ with-depth d (found (nth xs p))
   read-found x d e h is = sym (ap (λ o. with-depth d (found o)) h ∙ ap (λ n. Ok (x, n)) is)
+
+module _ {E : Type 0} (xs : List E) (first end : ℕ) where
+  pub fits-not-ordered : end < first → fits xs first end ≡ false
+  fits-not-ordered h = and-left (leb first end) (leb end (length xs)) (lt-leb first end h)
+
+  pub fits-not-within : length xs < end → fits xs first end ≡ false
+  fits-not-within h = and-right (leb first end) (leb end (length xs)) (lt-leb end (length xs) h)
+
+  pub fits-both : first ≤ end → end ≤ length xs → fits xs first end ≡ true
+  fits-both h h′ = and-from (leb first end) (leb end (length xs)) (le-leb first end h) (le-leb end (length xs) h′)

@@ -5,3 +5,4 @@ pub mod Surgery
 pub mod Changes
 pub mod Plain
 pub mod Trees
+pub mod Weights

@@ -5,16 +5,20 @@ ghost use mathlib.Core.List.{[]};
 ghost use Prim.Native.Nat.{ℕ, _-_, _≤_, _^_, min};
 ghost use lib.ListN.{length};
 ghost use Rattle.std.specs.Finite.{nth};
+ghost use Rattle.std.specs.Results.{isOk};
 ghost use Rattle.std.specs.Vec.{made};
 ghost use Rattle.std.specs.declared.result.Result.the-variants.{Ok, Err};
 ghost use Rattle.tree.specs.Plain.{numbered, Untouched, found, with-depth, insert-answer, after-insert, remove-answer, after-remove, replace-answer, after-replace, total-answer, seek-answer, fits};
 ghost use Rattle.tree.specs.Trees.{elements-of, capacity-of, depth-in, Totals-right, least, places-at};
+use crate::below::part_of;
 use crate::below::read_below;
 use crate::fault::Fault;
 use crate::measure::Measure;
 use crate::row::Heads;
 use crate::row::Row;
 use crate::row::Rows;
+use crate::seek::seek_below;
+use crate::total::total_below;
 use crate::tree::Tree;
 
 /// The most elements that a tree takes, however many rows it is lent.
@@ -112,5 +116,30 @@ impl<'a, E: Copy, T: Measure<E>> Tree<'a, E, T> {
             return Err(Fault::Place);
         }
         Ok(read_below(self.rows.all, self.heads.root, place as u16))
+    }
+
+    /// The total of a stretch: the totals of its elements, joined first to last.
+    pub fn total(&self, first: usize, end: usize) -> Result<T, Fault>
+        ensures answer { λ r. ⌜ (Totals-right ops (now (self .entry)) → numbered r ≡ total-answer ops (elements-of (now (self .entry))) first end) ⌝ }
+        ensures refusal { λ r. ⌜ isOk r ≡ fits (elements-of (now (self .entry))) first end ⌝ }
+    {
+        if first > end {
+            return Err(Fault::Stretch);
+        }
+        if end > self.heads.count as usize {
+            return Err(Fault::Stretch);
+        }
+        Ok(total_below(self.rows.all, self.heads.root, first as u16, end as u16))
+    }
+
+    /// The first place whose element, with all before it, weighs more than `weight`.
+    pub fn seek(&self, weight: u32) -> Result<usize, Fault>
+        ensures { λ r. ⌜ (Totals-right ops (now (self .entry)) → numbered r ≡ seek-answer ops (elements-of (now (self .entry))) weight) ⌝ }
+    {
+        let whole = part_of(self.rows.all, self.heads.root);
+        if whole.total.weight() <= weight {
+            return Err(Fault::Weight);
+        }
+        Ok(seek_below(self.rows.all, self.heads.root, weight) as usize)
     }
 }

@@ -10,4 +10,6 @@ pub mod pair;
 mod pool;
 mod remove;
 pub mod row;
+mod seek;
+mod total;
 pub mod tree;
