@@ -6,13 +6,15 @@ use Prim.Native.Nat.{ℕ, suc, _+_, _-_, _*_, _≤_, _<_, min}
 use native.Mathlib.Numerals.{one-add}
 use native.Mathlib.Omega.{arith}
 use lib.Dec.{leb, ltb}
-use lib.ListN.{length}
+use lib.ListN.{length, drop}
 use borrow.Author.Tests.{ltb-true, ltb-false, lt-ltb, le-ltb, le-leb, lt-leb}
 use Rattle.std.specs.Finite.{nth}
 use Rattle.std.specs.declared.result.Result.{Result}
 use Rattle.std.specs.declared.result.Result.the-variants.{Ok, Err}
 use Rattle.tree.specs.Measures.{total-of}
-use Rattle.tree.specs.Plain.{found, first-over, seek-answer}
+use Rattle.std.specs.shelf.Lists.{between}
+use Rattle.std.proofs.shelf.Lists.{take-all}
+use Rattle.tree.specs.Plain.{found, first-over, seek-answer, with-depth, total-answer}
 use Rattle.page.specs.Sums.{page-ops}
 use Rattle.page.specs.Pages.{find-answer, lines-of, hits-of}
 use Rattle.page.specs.declared.entry.Entry.{Entry}
@@ -82,3 +84,26 @@ find-is xs w few =
     either : (b : Bool) → looked-up xs (cond b (Err 4) (Ok p)) ≡ cond b (Err 4) (found (nth xs p))
     either true = refl
     either false = refl
+
+-- what was read, without its depth
+abbrev pub shallow : Result (Entry × ℕ) ℕ → Result Entry ℕ
+shallow (Ok x) = Ok (x .0)
+shallow (Err n) = Err n
+
+shallow-is : (d : ℕ) (r : Result Entry ℕ) → shallow (with-depth d r) ≡ r
+shallow-is d (Ok x) = refl
+shallow-is d (Err n) = refl
+
+-- seeking a line and reading there finds its entry
+pub read-is : (xs : List Entry) (w p d : ℕ) (r : Result (Entry × ℕ) ℕ) → length xs ≤ 4096 → Ok p ≡ seek-answer page-ops xs w → r ≡ with-depth d (found (nth xs p)) → shallow r ≡ find-answer xs w
+read-is xs w p d r few sought read = ap shallow read ∙ shallow-is d (found (nth xs p)) ∙ ap (looked-up xs) sought ∙ find-is xs w few
+
+-- the total from the first place to the last is that of all entries
+pub whole-is : (xs : List Entry) (n : ℕ) (s : PageSums) → length xs ≤ 4096 → n ≡ length xs → Ok s ≡ total-answer page-ops xs 0 n → s ≡ record { lines = lines-of xs; hits = hits-of xs }
+whole-is xs n s few all told =
+    let a : leb 0 n ≡ true = le-leb 0 n (omega arith) in
+    let b : leb n (length xs) ≡ true = le-leb n (length xs) (omega arith) in
+    let t : between 0 n xs ≡ xs = take-all (n - 0) (drop 0 xs) (omega arith) in
+    let e : Ok s ≡ Ok (total-of page-ops xs) = simp (a, b, t) at told in
+    let q : s ≡ total-of page-ops xs = cc in
+    q ∙ total-is xs few

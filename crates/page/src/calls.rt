@@ -5,7 +5,7 @@ ghost use mathlib.Core.List.{[]};
 ghost use lib.ListN.{length};
 ghost use Rattle.tree.specs.Plain.{Untouched, remove-answer, after-remove};
 ghost use Rattle.tree.specs.Trees.{capacity-of};
-ghost use Rattle.page.specs.Pages.{numbered, entries-of, room-of, put-answer, after-put};
+ghost use Rattle.page.specs.Pages.{numbered, entries-of, room-of, put-answer, after-put, find-answer, lines-of, hits-of};
 use crate::entry::Entry;
 use crate::fault::PageFault;
 use crate::fault::PageFaultFromFault;
@@ -52,5 +52,25 @@ impl<'t, 'a> Page<'t, 'a> {
     {
         let entry = self.tree.remove(place)?;
         Ok(entry)
+    }
+
+    /// The entry that shows a line of the screen. Lines count from 0, through the entries one after another.
+    pub fn find(&self, line: u32) -> Result<Entry, PageFault>
+        ensures { λ r. ⌜ numbered r ≡ find-answer (entries-of (now (self .entry))) line ⌝ }
+    {
+        let place = self.tree.seek(line)?;
+        let (entry, _) = self.tree.read(place)?;
+        Ok(entry)
+    }
+
+    /// How many lines and hits the entries have.
+    pub fn sums(&self) -> PageSums
+        ensures lines { λ r. ⌜ r .lines ≡ lines-of (entries-of (now (self .entry))) ⌝ }
+        ensures hits { λ r. ⌜ r .hits ≡ hits-of (entries-of (now (self .entry))) ⌝ }
+    {
+        match self.tree.total(0, self.len()) {
+            Ok(sums) => sums,
+            Err(_) => unreachable(),
+        }
     }
 }

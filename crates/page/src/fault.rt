@@ -20,8 +20,8 @@ pub enum PageFault {
 pub impl From<Fault> for PageFault as PageFaultFromFault {
     ghost converts = { λ e r. r ≡ Tree e };
 
-    fn from(fault: Fault) -> PageFault {
-        PageFault::Tree(fault)
+    fn from(refused: Fault) -> PageFault {
+        PageFault::Tree(refused)
     }
 }
 

@@ -35,6 +35,7 @@ pub impl Measure<Entry> for PageSums as PageSumsMeasure {
     }
 
     fn weight(self) -> u32 {
-        self.lines
+        let PageSums { lines, .. } = self;
+        lines
     }
 }
