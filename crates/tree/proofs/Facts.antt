@@ -4,7 +4,7 @@ use mathlib.Core.List.{List, [], _∷_, List·isSet}
 use mathlib.Core.Logic.{∥∥₁-elim, ∥∥₁-map}
 use native.Mathlib.Bridge.{le-prop}
 use native.Mathlib.Omega.{arith}
-use Prim.Native.Nat.{ℕ, _-_, _+_, _≤_, _<_, _^_}
+use Prim.Native.Nat.{ℕ, _-_, _+_, _≤_, _<_, _^_, min}
 use lib.ListN.{length}
 use Rattle.std.specs.Finite.{nth}
 use Rattle.std.specs.shelf.Lists.{inserted, removed}
@@ -46,6 +46,9 @@ module _ {E T : Type 0} {rows : List (Row E T)} {h : Heads} (some : Stands rows 
 
   pub count-is : h .count ≡ length (elements (shape-in rows h))
   count-is = sym (number-is (λ s. length (elements s)) (h .count) (λ w. length-elements (w .0) ∙ sym (w .2 .counted)))
+
+  pub count-fits : h .count ≤ min 4096 (length rows)
+  count-fits = ∥∥₁-elim some le-prop (λ w. let a = w .2 .counted in let b = w .2 .pool .tallied in let c = w .2 .pool .long in let d = w .2 .pool .small in omega arith)
 
   pub deep-enough : (p : ℕ) → least (depth (shape-in rows h) p) ≤ length (elements (shape-in rows h))
   deep-enough p = ∥∥₁-elim some le-prop (λ w.

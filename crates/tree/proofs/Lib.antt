@@ -15,3 +15,5 @@ pub mod Plains
 pub mod Stretches
 pub mod Weighing
 pub mod Seeking
+pub mod Splices
+pub mod Histories

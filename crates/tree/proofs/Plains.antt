@@ -12,7 +12,7 @@ use Rattle.std.proofs.shelf.Maps.{nth-past}
 use Rattle.std.proofs.shelf.Tests.{lt-ltb, le-ltb, le-leb, lt-leb, cond-true, cond-false, and-left, and-right, and-from}
 use Rattle.std.specs.declared.option.Option.the-variants.{Some}
 use Rattle.std.specs.declared.result.Result.the-variants.{Ok, Err}
-use Rattle.tree.specs.Plain.{accepted, found, with-depth, fits, insert-answer, after-insert, remove-answer, after-remove}
+use Rattle.tree.specs.Plain.{accepted, found, with-depth, fits, insert-answer, after-insert, remove-answer, after-remove, spliced, replace-answer, after-replace}
 
 module _ {E : Type 0} (room : ℕ) (xs : List E) (p : ℕ) (x : E) where
   pub insert-no-place : length xs < p → (Err 1 ≡ insert-answer room xs p) × (xs ≡ after-insert room xs p x)
@@ -49,3 +49,10 @@ module _ {E : Type 0} (xs : List E) (first end : ℕ) where
 
   pub fits-both : first ≤ end → end ≤ length xs → fits xs first end ≡ true
   fits-both h h′ = and-from (leb first end) (leb end (length xs)) (le-leb first end h) (le-leb end (length xs) h′)
+
+  module _ (room : ℕ) (ys : List E) where
+    pub replace-fits : first ≤ end → end ≤ length xs → length xs - (end - first) + length ys ≤ room → (Ok tt ≡ replace-answer room xs first end ys) × (spliced xs first end ys ≡ after-replace room xs first end ys)
+    replace-fits h h′ r =
+        let n = length xs - (end - first) + length ys in
+        let a = cond-true (fits xs first end) _ (Err 3) (fits-both h h′) ∙ cond-false (ltb room n) (Err 2) (Ok tt) (le-ltb room n r) in
+        (sym a, sym (ap (λ q. accepted q (spliced xs first end ys) xs) a))

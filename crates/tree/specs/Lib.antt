@@ -6,3 +6,4 @@ pub mod Changes
 pub mod Plain
 pub mod Trees
 pub mod Weights
+pub mod History

@@ -6,7 +6,7 @@ use denote.Ref.{now}
 use lib.ListN.{length}
 use lib.Dec.{eqb}
 use Rattle.tree.specs.Measures.{Operations}
-use Rattle.tree.specs.Shapes.{Shape, elements, depth, Totalled, shape-of}
+use Rattle.tree.specs.Shapes.{Shape, elements, depth, Totalled, Sound, shape-of}
 use Rattle.tree.specs.declared.row.Row.{Row}
 use Rattle.tree.specs.declared.tree.Tree.{Tree}
 
@@ -29,6 +29,10 @@ capacity-of t = min 4096 (length (rows-of t))
 -- the depth of a place, counted in the rows: from the root to the place's row, both included
 unfoldable pub depth-in : {E T : Type 0} → Tree E T → ℕ → ℕ
 depth-in t p = depth (shape t) p
+
+-- the rows in use have the heights and counts of one balanced tree, none is used twice, and every other row can be used again
+unfoldable pub Rows-sound : {E T : Type 0} → Tree E T → Type 0
+Rows-sound t = ∥ (Sound (rows-of t) (t .heads .root) (t .heads .free) (t .heads .used) (t .heads .count)) ∥₁
 
 -- every row in use stores the total of its part
 unfoldable pub Totals-right : {E T : Type 0} → Operations E T → Tree E T → Type 0

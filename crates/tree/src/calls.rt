@@ -58,7 +58,8 @@ impl<'a, E: Copy, T: Measure<E>> Tree<'a, E, T> {
 
     /// How many elements are there.
     pub fn len(&self) -> usize
-        ensures { λ r. ⌜ r ≡ length (elements-of (now (self .entry))) ⌝ }
+        ensures count { λ r. ⌜ r ≡ length (elements-of (now (self .entry))) ⌝ }
+        ensures room { λ r. ⌜ r ≤ capacity-of (now (self .entry)) ⌝ }
     {
         self.heads.count as usize
     }
