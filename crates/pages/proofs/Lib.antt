@@ -1,0 +1,4 @@
+pub mod Marks
+pub mod Digits
+pub mod Pieces
+pub mod Words
