@@ -33,12 +33,7 @@ impl<'a, E: Copy, T: Measure<E>> Tree<'a, E, T> {
     {
         Tree {
             rows: Rows { all: rows },
-            heads: Heads {
-                root: None,
-                free: None,
-                used: 0,
-                count: 0,
-            },
+            heads: Heads::EMPTY,
         }
     }
 
@@ -48,12 +43,7 @@ impl<'a, E: Copy, T: Measure<E>> Tree<'a, E, T> {
         ensures totals { λ _. ⌜ Totals-right ops (now (self .exit)) ⌝ }
         ensures capacity { λ _. ⌜ capacity-of (now (self .exit)) ≡ capacity-of (now (self .entry)) ⌝ }
     {
-        self.heads = Heads {
-            root: None,
-            free: None,
-            used: 0,
-            count: 0,
-        };
+        self.heads = Heads::EMPTY;
     }
 
     /// How many elements are there.
@@ -61,7 +51,7 @@ impl<'a, E: Copy, T: Measure<E>> Tree<'a, E, T> {
         ensures count { λ r. ⌜ r ≡ length (elements-of (now (self .entry))) ⌝ }
         ensures room { λ r. ⌜ r ≤ capacity-of (now (self .entry)) ⌝ }
     {
-        self.heads.count as usize
+        usize::from(self.heads.count)
     }
 
     /// How many elements can be there.

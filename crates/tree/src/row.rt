@@ -52,3 +52,13 @@ pub(crate) struct Heads {
     pub(crate) used: u16,
     pub(crate) count: u16,
 }
+
+impl Heads {
+    /// No row was ever used.
+    pub(crate) const EMPTY: Heads = Heads {
+        root: None,
+        free: None,
+        used: 0,
+        count: 0,
+    };
+}
