@@ -24,7 +24,7 @@ number-in bs =
     (cond (ltb 1 (length bs) && eqb (getD bs 0 0) 48) (Err Number) (okOr (read-on 0 bs) Number)))
 
 -- the second step, where the first did not refuse
-abbrev pub then : {A B : Type 0} → Result A Refusal → (A → Result B Refusal) → Result B Refusal
+abbrev pub then : {A B E : Type 0} → Result A E → (A → Result B E) → Result B E
 then (Ok x) f = f x
 then (Err e) f = Err e
 

@@ -1,8 +1,11 @@
 //! Carries out a list of page calls from standard input.
 
+mod answer;
 mod call;
 mod cut;
 mod number;
 mod parse;
+mod report;
+mod step;
 
 fn main() {}
