@@ -3,7 +3,7 @@
 ghost use Prim.Native.Nat.{_≤_};
 
 /// A found entry: the key under which the archive holds it, the lines that it takes on the screen, and its hits.
-#[derive(Clone, Copy, PartialEq, Eq, Debug)]
+#[derive(Clone, Copy)]
 pub struct Entry {
     pub key: u32,
     pub lines: u16,

@@ -4,12 +4,9 @@ ghost use mathlib.Core.Path.{_≡_};
 ghost use Rattle.page.specs.Faults.{number as number-of};
 ghost use Rattle.page.specs.declared.fault.PageFault.the-variants.{Tree};
 use tree::fault::Fault;
-use tree::fault::FaultDebug;
-use tree::fault::FaultEq;
-use tree::fault::FaultPartialEq;
 
 /// A refusal; the call that got it left everything as it was.
-#[derive(Clone, Copy, PartialEq, Eq, Debug)]
+#[derive(Clone, Copy)]
 pub enum PageFault {
     /// An entry takes 1 to 65,535 lines.
     Lines,

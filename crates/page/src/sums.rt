@@ -5,7 +5,7 @@ use crate::entry::Entry;
 use tree::measure::Measure;
 
 /// How many lines and hits some entries have, each held at 4,294,967,295; it weighs its lines.
-#[derive(Clone, Copy, PartialEq, Eq, Debug)]
+#[derive(Clone, Copy)]
 pub struct PageSums {
     pub lines: u32,
     pub hits: u32,

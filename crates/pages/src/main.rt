@@ -6,6 +6,7 @@ mod cut;
 mod number;
 mod parse;
 mod report;
+mod session;
 mod step;
 
 fn main() {}
