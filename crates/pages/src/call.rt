@@ -43,7 +43,7 @@ pub impl From<PageFault> for Refusal as RefusalFromPageFault {
 
 impl Refusal {
     /// The number by which the refusal is told.
-    pub fn number(self) -> u8
+    pub(crate) fn number(self) -> u8
         ensures { λ r. ⌜ r ≡ number-of self ⌝ }
     {
         match self {

@@ -20,7 +20,7 @@ fn first(bytes: &[u8], mark: u8) -> usize
 }
 
 /// The bytes before the first such byte, and those behind it, if it is there.
-pub fn cut<'a>(bytes: &'a [u8], mark: u8) -> (&'a [u8], Option<&'a [u8]>)
+pub(crate) fn cut<'a>(bytes: &'a [u8], mark: u8) -> (&'a [u8], Option<&'a [u8]>)
     ensures before { λ r. ⌜ now (r .0) ≡ take (first-at mark (now (bytes .entry))) (now (bytes .entry)) ⌝ }
     ensures behind { λ r. ⌜ mapped now (r .1) ≡ behind mark (now (bytes .entry)) ⌝ }
 {

@@ -26,7 +26,7 @@ fn digits(bytes: &[u8]) -> Option<u32>
 }
 
 /// The number in a field: one to nine digits, the first of them not 0 unless it is the only one.
-pub fn number(field: &[u8]) -> Result<u32, Refusal>
+pub(crate) fn number(field: &[u8]) -> Result<u32, Refusal>
     ensures { λ r. ⌜ r ≡ number-in (now (field .entry)) ⌝ }
 {
     if field.len() < 1 {
@@ -45,7 +45,7 @@ pub fn number(field: &[u8]) -> Result<u32, Refusal>
 }
 
 /// The number in a field, which is at most 65,535.
-pub fn small(field: &[u8]) -> Result<u16, Refusal>
+pub(crate) fn small(field: &[u8]) -> Result<u16, Refusal>
     ensures { λ r. ⌜ r ≡ small-in (now (field .entry)) ⌝ }
 {
     let n = number(field)?;

@@ -89,7 +89,7 @@ fn find(rest: Option<&[u8]>) -> Result<Call, Refusal>
 }
 
 /// The call that a line asks for.
-pub fn parse(line: &[u8]) -> Result<Call, Refusal>
+pub(crate) fn parse(line: &[u8]) -> Result<Call, Refusal>
     ensures { λ r. ⌜ r ≡ call-in (now (line .entry)) ⌝ }
 {
     let (word, rest) = cut(line, TAB);

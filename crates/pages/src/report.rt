@@ -30,7 +30,7 @@ fn answer_report(heap: Global, answer: Answer) -> Result<String, AllocError>
 }
 
 /// The line that tells the outcome of a line.
-pub fn line_report(
+pub(crate) fn line_report(
     heap: Global,
     number: usize,
     outcome: Result<Answer, Refusal>,
@@ -47,7 +47,11 @@ pub fn line_report(
 }
 
 /// The line that closes a session.
-pub fn end_report(heap: Global, page: &Page<'_, '_>, refused: usize) -> Result<String, AllocError>
+pub(crate) fn end_report(
+    heap: Global,
+    page: &Page<'_, '_>,
+    refused: usize,
+) -> Result<String, AllocError>
     ensures { λ r. ⌜ made r (λ s. string-bytes s ≡ end-text (entries-of (now (page .entry))) refused) ⌝ }
 {
     let count = page.len();

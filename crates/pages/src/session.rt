@@ -32,7 +32,7 @@ fn next_line<'a>(text: &'a [u8]) -> (&'a [u8], &'a [u8])
 }
 
 /// Carries out every line of a text on a page, and answers what is to be printed.
-pub fn run(heap: Global, page: &mut Page<'_, '_>, text: &[u8]) -> Result<String, AllocError>
+pub(crate) fn run(heap: Global, page: &mut Page<'_, '_>, text: &[u8]) -> Result<String, AllocError>
     ensures { λ r. ⌜ made r (λ s. string-bytes s ≡ transcript (room-of (now (page .entry))) (entries-of (now (page .entry))) (now (text .entry))) ⌝ }
 {
     let mut printed = String::new(heap);

@@ -32,7 +32,7 @@ fn carry_out(page: &mut Page<'_, '_>, call: Call) -> Result<Answer, Refusal>
 }
 
 /// Carries out a line.
-pub fn step(page: &mut Page<'_, '_>, line: &[u8]) -> Result<Answer, Refusal>
+pub(crate) fn step(page: &mut Page<'_, '_>, line: &[u8]) -> Result<Answer, Refusal>
     ensures answer { λ r. ⌜ told r ≡ line-answer (room-of (now (page .entry))) (entries-of (now (page .entry))) (now (line .entry)) ⌝ }
     ensures entries { λ _. ⌜ entries-of (now (page .exit)) ≡ after-line (room-of (now (page .entry))) (entries-of (now (page .entry))) (now (line .entry)) ⌝ }
     ensures room { λ _. ⌜ room-of (now (page .exit)) ≡ room-of (now (page .entry)) ⌝ }
