@@ -2,7 +2,7 @@
 //!
 //! A line in is a direction and items in the letters of scripts, parted by a tab. The line out
 //! is the base level, the levels, the places in visual order and the columns, parted by tabs;
-//! within one of these, single spaces part the numbers.
+//! each of these is a name and then its numbers, each behind a space.
 
 use std::fmt::Display;
 
@@ -36,10 +36,10 @@ pub fn answer(line: &[u8]) -> Result<String, Fault> {
 
 /// The line out.
 fn print(base: Level, levels: &[Level], order: &[usize], columns: &[u32]) -> String {
-    format!("{base}\t{}\t{}\t{}\n", spaced(levels), spaced(order), spaced(columns))
+    format!("base {base}\tlevels{}\torder{}\tcolumns{}\n", spaced(levels), spaced(order), spaced(columns))
 }
 
-/// Numbers parted by single spaces.
+/// Numbers, each behind a space.
 fn spaced<T: Display>(numbers: &[T]) -> String {
-    numbers.iter().map(T::to_string).collect::<Vec<_>>().join(" ")
+    numbers.iter().map(|n| format!(" {n}")).collect()
 }

@@ -28,10 +28,10 @@ fn printed(arguments: &[&str], input: &str) -> String {
 #[test]
 fn levels_tells_base_levels_order_and_columns() {
     let input = "F\t\nF\tR1W1E2E1\nL\tR1W0L2\nR\tL1";
-    let expected = "0\t\t\t\n\
-                    1\t1 1 2 2\t2 3 1 0\t4 3 0 2\n\
-                    0\t1 0 0\t0 1 2\t0 1 1\n\
-                    1\t2\t0\t0\n";
+    let expected = "base 0\tlevels\torder\tcolumns\n\
+                    base 1\tlevels 1 1 2 2\torder 2 3 1 0\tcolumns 4 3 0 2\n\
+                    base 0\tlevels 1 0 0\torder 0 1 2\tcolumns 0 1 1\n\
+                    base 1\tlevels 2\torder 0\tcolumns 0\n";
     assert_eq!(printed(&["levels"], input), expected);
 }
 

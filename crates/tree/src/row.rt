@@ -40,6 +40,7 @@ pub(crate) struct Part<T> {
 }
 
 /// The rows that a caller lent, as a struct of their own, so that a method can lend them on.
+#[derive(Drop)]
 pub(crate) struct Rows<'a, E, T> {
     pub(crate) all: &'a mut [Row<E, T>],
 }

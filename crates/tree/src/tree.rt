@@ -7,6 +7,7 @@ use crate::row::Row;
 use crate::row::Rows;
 
 /// A list of elements, held as a balanced tree in the rows that its caller lent. The rows are sound whenever it can be used.
+#[derive(Drop)]
 pub struct Tree<'a, E, T> {
     pub(crate) rows: Rows<'a, E, T>,
     pub(crate) heads: Heads,

@@ -1,0 +1,4 @@
+pub mod Acting
+pub mod Resolving
+pub mod Runs
+pub mod Walks

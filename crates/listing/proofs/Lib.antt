@@ -1,0 +1,4 @@
+pub mod Spacing
+pub mod Columns
+pub mod Buffers
+pub mod Reading

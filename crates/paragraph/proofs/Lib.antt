@@ -1,0 +1,12 @@
+pub mod SpanLaws
+pub mod Walks
+pub mod Bridge
+pub mod Decides
+pub mod Leftwards
+pub mod Rightwards
+pub mod Stored
+pub mod Stretched
+pub mod Levels
+pub mod Edits
+pub mod Widths
+pub mod Around

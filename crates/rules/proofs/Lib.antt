@@ -1,0 +1,11 @@
+pub mod Passes
+pub mod Ahead
+pub mod Step
+pub mod ByContexts
+pub mod Reversing
+pub mod TwoReversals
+pub mod AroundItem
+pub mod Higher
+pub mod ByStretches
+pub mod AlongOrder
+pub mod LowestOdd
