@@ -8,16 +8,30 @@ ghost use Rattle.std.specs.Of.String.{string-bytes};
 ghost use Rattle.std.specs.Vec.{made};
 ghost use Rattle.page.specs.Pages.{entries-of, room-of};
 ghost use Rattle.pages.specs.Lines.{lines-in};
-ghost use Rattle.pages.specs.Reports.{transcript};
+ghost use Rattle.pages.specs.Reports.{transcript, output};
 use crate::cut::cut;
 use crate::report::end_report;
 use crate::report::line_report;
 use crate::step::step;
+use page::entry::Entry;
 use page::page::Page;
+use page::sums::PageSumsMeasure;
 use std::alloc::AllocError;
 use std::alloc::Global;
+use tree::row::Row;
+use tree::tree::Tree;
+
+/// The most bytes that are carried out.
+pub const LIMIT: usize = 16384;
 
 const LINE_FEED: u8 = 10;
+
+/// Fills the rows of a new page.
+const BLANK: Entry = Entry {
+    key: 0,
+    lines: 1,
+    hits: 0,
+};
 
 /// The first line of a text, and the text behind it.
 fn next_line<'a>(text: &'a [u8]) -> (&'a [u8], &'a [u8])
@@ -53,4 +67,17 @@ pub(crate) fn run(heap: Global, page: &mut Page<'_, '_>, text: &[u8]) -> Result<
     let report = end_report(heap, page, refused)?;
     printed.push_str(report.as_str())?;
     Ok(printed)
+}
+
+/// What the program prints for its input.
+pub fn respond(heap: Global, input: &[u8]) -> Result<String, AllocError>
+    ensures { λ r. ⌜ made r (λ s. string-bytes s ≡ output (now (input .entry))) ⌝ }
+{
+    if input.len() > LIMIT {
+        return String::from_str(heap, "!\t0\t28\n");
+    }
+    let mut rows = [Row::new(BLANK); 256];
+    let mut tree = Tree::open(&mut rows);
+    let mut page = Page::open(&mut tree);
+    run(heap, &mut page, input)
 }
