@@ -1,0 +1,4 @@
+pub mod Faults
+pub mod Sums
+pub mod Entries
+pub mod Pages

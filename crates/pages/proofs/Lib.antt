@@ -1,0 +1,5 @@
+pub mod Marks
+pub mod Digits
+pub mod Pieces
+pub mod Words
+pub mod Sofar

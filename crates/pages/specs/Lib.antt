@@ -1,0 +1,5 @@
+pub mod Lines
+pub mod Calls
+pub mod Numbers
+pub mod Session
+pub mod Reports
