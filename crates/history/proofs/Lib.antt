@@ -1,2 +1,3 @@
 pub mod Picking
 pub mod Histories
+pub mod Depths

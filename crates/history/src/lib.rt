@@ -1,5 +1,6 @@
 //! The law over whole histories of calls.
 
 mod change;
+pub mod history;
 mod question;
 pub mod request;
