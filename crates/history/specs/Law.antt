@@ -3,13 +3,18 @@ use mathlib.Core.Path.{_≡_}
 use mathlib.Core.List.{List, [], map}
 use Prim.Native.Nat.{ℕ, _-_, _≤_, _<_, _^_}
 use denote.Ref.{now}
+use lib.Dec.{ltb}
 use lib.ListN.{length, take}
+use mathlib.Core.Bool.{cond}
 use Rattle.std.specs.declared.option.Option.{Option}
 use Rattle.std.specs.declared.result.Result.{Result}
-use Rattle.tree.specs.History.{History}
+use Rattle.std.specs.declared.result.Result.the-variants.{Err}
+use Rattle.tree.specs.History.{History, short-list}
 use Rattle.tree.specs.Measures.{Operations}
 use Rattle.tree.specs.Trees.{depth-in, least, places-at}
 use Rattle.tree.specs.declared.fault.Fault.{Fault}
+use Rattle.tree.specs.declared.history.Unrecorded.{Unrecorded}
+use Rattle.tree.specs.declared.history.Unrecorded.the-variants.{Outcomes, Answers}
 use Rattle.tree.specs.declared.request.Change.{Change as TreeChange}
 use Rattle.tree.specs.declared.request.Question.{Question as TreeQuestion}
 use Rattle.tree.specs.declared.request.Told.{Told as TreeTold}
@@ -42,3 +47,13 @@ pub record Paragraph-history (room : ℕ) (direction : Direction) (recorded : Li
   pub told : map numbered (take (length questions) answers) ≡ map (question-answer (after-all room recorded (empty direction) changes) (depth-in (now (p .tree)))) questions
   pub deep : (place : ℕ) → place < length (after-all room recorded (empty direction) changes .items) → least (depth-in (now (p .tree)) place) ≤ length (after-all room recorded (empty direction) changes .items)
   pub sparse : (d : ℕ) → places-at (depth-in (now (p .tree))) d (length (after-all room recorded (empty direction) changes .items)) ≤ 2 ^ (d - 1)
+
+-- the list that is too short for its answers: those of the paragraph are looked at first
+abbrev pub shortest : ℕ → ℕ → ℕ → ℕ → ℕ → ℕ → ℕ → ℕ → Result (Unit {0}) Unrecorded
+shortest tree-changes tree-outcomes tree-questions tree-answers changes outcomes questions answers =
+    cond (ltb outcomes changes) (Err Outcomes) (cond (ltb answers questions) (Err Answers) (short-list tree-changes tree-outcomes tree-questions tree-answers))
+
+-- The law: of a tree, for every lawful measure, and of a paragraph, each begun empty, changed by any list of calls and asked any list of questions.
+pub record Law {E T : Type 0} (k : Operations E T) (room : ℕ) (tree-changes : List (TreeChange E)) (tree-outcomes : List (Result (Option E) Fault)) (tree-questions : List TreeQuestion) (tree-answers : List (Result (TreeTold E T) Fault)) (tree : Tree E T) (paragraph-room : ℕ) (direction : Direction) (recorded : List Item) (changes : List Change) (outcomes : List (Result Outcome ParagraphFault)) (questions : List Question) (answers : List (Result Told ParagraphFault)) (paragraph : Paragraph) : Type 0 where
+  pub of-tree : History k room tree-changes tree-outcomes tree-questions tree-answers tree
+  pub of-paragraph : Paragraph-history paragraph-room direction recorded changes outcomes questions answers paragraph

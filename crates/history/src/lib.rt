@@ -2,5 +2,6 @@
 
 mod change;
 pub mod history;
+pub mod law;
 mod question;
 pub mod request;
