@@ -1,5 +1,7 @@
 //! Times the calls of a paragraph. Without arguments it prints a fixed line; `bench CASES < TEXT` reads a direction and items, as the program `levels` does, and prints a line for each case.
 
+#![tactic(auto)]
+
 mod cases;
 mod numbers;
 

@@ -1,5 +1,7 @@
 //! Items of a paragraph, their two measures, and their levels, order and columns over slices.
 
+#![tactic(auto)]
+
 mod actions;
 pub mod column;
 pub mod columns;

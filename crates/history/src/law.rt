@@ -35,7 +35,7 @@ pub fn history<E: Copy, T: Measure<E>>(
     answers: &mut [Result<Told, ParagraphFault>],
 ) -> Result<(), Unrecorded>
     ensures answer { result ≡ shortest (length tree_changes.now) (length tree_outcomes.old) (length tree_questions.now) (length tree_answers.old) (length changes.now) (length outcomes.old) (length questions.now) (length answers.old) }
-    ensures law { OnOk result (Law ops (capacity_of tree.old) tree_changes.now tree_outcomes.new tree_questions.now tree_answers.new tree.new (room_of paragraph.old) direction recorded.now changes.now outcomes.new questions.now answers.new paragraph.new) }
+    ensures law { OnOk result (Law T.ops (capacity_of tree.old) tree_changes.now tree_outcomes.new tree_questions.now tree_answers.new tree.new (room_of paragraph.old) direction recorded.now changes.now outcomes.new questions.now answers.new paragraph.new) }
     ensures refused { Untouched result tree.old tree.new × Untouched result paragraph.old paragraph.new }
     ensures lists { Untouched result tree_outcomes.old tree_outcomes.new × Untouched result tree_answers.old tree_answers.new × Untouched result outcomes.old outcomes.new × Untouched result answers.old answers.new }
 {

@@ -1,5 +1,7 @@
 //! The law over whole histories of calls.
 
+#![tactic(auto)]
+
 mod change;
 pub mod history;
 pub mod law;

@@ -1,5 +1,7 @@
 //! Reads lines of a direction and items, and prints the base level, the levels, the visual order and the columns of each.
 
+#![tactic(auto)]
+
 use listing::listing::{listing, refused};
 use listing::parse::parse;
 use std::alloc::{AllocError, Global};

@@ -1,5 +1,7 @@
 //! Carries out a list of page calls from standard input, and prints the answers.
 
+#![tactic(auto)]
+
 mod answer;
 mod call;
 mod cut;

@@ -1,5 +1,7 @@
 //! A paragraph in mixed directions: its items, corrections to them, and what each correction changes on the screen.
 
+#![tactic(auto)]
+
 mod ask;
 mod column;
 mod context;

@@ -7,7 +7,6 @@ use Rattle.rules.specs.declared.classes.Strong.{Strong}
 use Rattle.rules.specs.declared.classes.Strong.TheVariants.{L as strong_L, R as strong_R, AL as strong_AL}
 use Rattle.rules.specs.declared.classes.Side.{Side}
 use Rattle.rules.specs.declared.classes.Side.TheVariants.{L as side_L, R as side_R}
-use Rattle.rules.specs.declared.contexts.First.{First}
 use Rattle.rules.specs.declared.contexts.First.TheVariants.{European as first_EN}
 use Rattle.rules.specs.Classes.{is, is_neutral, letter}
 use Rattle.rules.specs.Rules.{W1, W2, W3, W4, W6, W7, joins, next, leads_to_EN, ahead}

@@ -1,11 +1,11 @@
 -- The L2 order around an item, by parts.
-use Rattle.std.proofs.Common.{◌≡◌, ℕ, zero, suc, ◌+◌, ◌<◌, ◌≤◌, Bool, true, false, eqb, ◌⊎◌, List, [], ◌∷◌, ◌++◌, reverse, sum_by, sym, refl, ap, ◌∙◌, subst, ap₂, inl, inr, ⊎_elim, append_assoc, arith}
-use mathlib.Core.List.{reverse_aux, reverse-append, reverse-reverse, reverse-cons}
+use Rattle.std.proofs.Common.{◌≡◌, ℕ, ◌+◌, ◌<◌, ◌≤◌, List, [], ◌∷◌, ◌++◌, reverse, sum_by, refl, ap, ◌∙◌, append_assoc, arith}
+use mathlib.Core.List.{reverse-append, reverse-reverse, reverse-cons}
 use Rattle.std.specs.List.{AllByRecursion as All}
 use Rattle.std.proofs.lemmas.Bool.{eq-eqb, ne_eqb}
 use Rattle.std.proofs.lemmas.List.Sums.{sum_by-append}
 use Rattle.std.proofs.ByRecursion.{All-append}
-use Rattle.rules.specs.Order.{turned, reversed}
+use Rattle.rules.specs.Order.{reversed}
 use Rattle.rules.specs.Order.{before}
 use Rattle.rules.proofs.Reversing.{Begins, Ends, turned_all, cut_at, cut_out, sum_turned, all_turned, begins_higher, ends_higher, begins_still, ends_still, sum-reverse, all_reverse}
 

@@ -1,9 +1,9 @@
 -- The levels by the rules are the levels by contexts, in every paragraph.
-use Rattle.std.proofs.Common.{◌≡◌, ℕ, suc, ◌≤◌, Bool, true, false, cond, not, ◌&&◌, ◌||◌, T, leb, List, [], ◌∷◌, ◌++◌, map, length, get_or, sym, refl, ap, ◌∙◌, subst, ap₂, eqb→eq, leb→le}
+use Rattle.std.proofs.Common.{◌≡◌, ℕ, suc, ◌≤◌, Bool, true, false, cond, not, ◌&&◌, ◌||◌, T, leb, List, [], ◌∷◌, ◌++◌, map, length, get_or, sym, refl, ap, ◌∙◌, ap₂, eqb→eq, leb→le}
 use mathlib.Core.Path.{subst⁻¹}
 use Rattle.std.specs.List.{AllByRecursion as All}
 use Rattle.rules.specs.declared.classes.Class.{Class}
-use Rattle.rules.specs.declared.classes.Class.TheVariants.{L, R, AL, EN, ES, ET, AN, CS, NSM, S, WS, ON}
+use Rattle.rules.specs.declared.classes.Class.TheVariants.{L, R, EN, ET}
 use Rattle.rules.specs.declared.classes.Side.{Side}
 use Rattle.rules.specs.declared.classes.Side.TheVariants.{L as side_L, R as side_R}
 use Rattle.rules.specs.declared.contexts.Left.{Left}
@@ -15,7 +15,7 @@ use Rattle.rules.specs.Claims.{right_of, LevelsByContexts, LevelsAreLow}
 use Rattle.rules.specs.Finite.{every, at, at₂, alike, met, fst, snd, same, is_false, classes, sides, bools}
 use Rattle.rules.proofs.Passes.{w5, W5ByFlag, n12, N1N2Once, side_after}
 use Rattle.rules.proofs.Ahead.{class_of, stays, weak, front, back, leads_right, sees}
-use Rattle.rules.proofs.Step.{fits, at_W1, at_W3, strong_after, at_W5, at_W6, at_W7, at_N, class_next, x1, x3, s', join, y, e', z6, z7, t', from_ET, looks, keeps, agrees, good, one_item}
+use Rattle.rules.proofs.Step.{fits, at_W1, at_W3, strong_after, at_W5, at_W6, at_W7, at_N, class_next, x1, x3, s', join, y, e', z7, t', from_ET, looks, keeps, agrees, good, one_item}
 
 -- the levels of the items, each by its contexts
 abbrev by_context : Side → Left → List Class → List ℕ

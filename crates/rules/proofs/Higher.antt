@@ -1,5 +1,5 @@
 -- The column of an item at level 2 or below, whatever the levels of the others: higher reversals stay on one side of it.
-use Rattle.std.proofs.Common.{◌≡◌, ℕ, zero, suc, ◌+◌, ◌<◌, ◌≤◌, List, [], ◌∷◌, ◌++◌, sum_by, sym, refl, ap, ◌∙◌, subst, ap₂, arith}
+use Rattle.std.proofs.Common.{◌≡◌, ℕ, zero, suc, ◌+◌, ◌<◌, ◌≤◌, List, [], ◌∷◌, ◌++◌, sum_by, refl, ap, ◌∙◌, subst, ap₂, arith}
 use Rattle.std.specs.List.{AllByRecursion as All}
 use Rattle.rules.specs.Order.{reversed, reordered, before}
 use Rattle.rules.proofs.Reversing.{Begins, Ends, cut_at, cut_out, sum_turned, all_turned, begins_higher, ends_higher, begins_still, ends_still}

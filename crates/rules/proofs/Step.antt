@@ -1,5 +1,5 @@
 -- One item: the states of the rules fit its left context, and fit it again behind the item. By one test over all of them.
-use Rattle.std.proofs.Common.{Bool, true, false, cond, not, ◌&&◌, ◌||◌, T, eqb}
+use Rattle.std.proofs.Common.{Bool, cond, not, ◌&&◌, ◌||◌, T, eqb}
 use Rattle.rules.specs.declared.classes.Class.{Class}
 use Rattle.rules.specs.declared.classes.Class.TheVariants.{L, AL, EN, ET, AN, NSM, ON}
 use Rattle.rules.specs.declared.classes.Side.{Side}

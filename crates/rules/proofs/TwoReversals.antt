@@ -1,8 +1,7 @@
 -- With levels at most 2, two reversals make the L2 order.
-use Rattle.std.proofs.Common.{◌≡◌, ℕ, zero, suc, ◌+◌, ◌-◌, ◌<◌, ◌≤◌, max, ◌⊎◌, List, [], ◌∷◌, ◌++◌, length, get_or, sym, refl, ap, ◌∙◌, subst, inl, inr, ⊎_elim, arith}
+use Rattle.std.proofs.Common.{◌≡◌, ℕ, zero, suc, ◌+◌, ◌-◌, ◌<◌, ◌≤◌, List, [], ◌∷◌, length, get_or, sym, refl, ap, ◌∙◌, arith}
 use Rattle.std.specs.List.{AllByRecursion as All}
-use Rattle.std.proofs.lemmas.Bool.{cases_lt}
-use Rattle.rules.specs.Order.{places, turned, reversed, reordered, highest, at, L2}
+use Rattle.rules.specs.Order.{places, reversed, reordered, highest, at, L2}
 use Rattle.rules.specs.Stretches.{TwoReversals}
 use Rattle.rules.proofs.Reversing.{turned_low}
 

@@ -1,5 +1,5 @@
 -- The visual order of the items of a paragraph, and the column of each. An item is named by its place.
-use Rattle.std.specs.Prelude.{ℕ, zero, suc, max, Bool, true, false, List, [], ◌∷◌, ◌++◌, length, sum_by, ◌==◌, nat_le, slice_index}
+use Rattle.std.specs.Prelude.{ℕ, zero, suc, max, true, false, List, [], ◌∷◌, ◌++◌, length, sum_by, ◌==◌, nat_le, slice_index}
 
 -- the number at a place, 0 where there is none
 abbrev pub at : List ℕ → ℕ → ℕ

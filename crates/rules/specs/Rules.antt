@@ -3,7 +3,7 @@
 -- In a rule that looks back, `before` is the class of the item before, at first sor; one that looks ahead is given eor.
 use Rattle.std.specs.Prelude.{ℕ, Bool, false, cond, ◌&&◌, ◌||◌, List, [], ◌∷◌, map, Some, None, Option}
 use Rattle.rules.specs.declared.classes.Class.{Class}
-use Rattle.rules.specs.declared.classes.Class.TheVariants.{L, R, AL, EN, ES, ET, AN, CS, NSM, S, WS, ON}
+use Rattle.rules.specs.declared.classes.Class.TheVariants.{L, R, AL, EN, ES, ET, AN, CS, NSM, ON}
 use Rattle.rules.specs.declared.classes.Strong.{Strong}
 use Rattle.rules.specs.declared.classes.Strong.TheVariants.{L as strong_L, R as strong_R, AL as strong_AL}
 use Rattle.rules.specs.declared.classes.Side.{Side}

@@ -1,7 +1,7 @@
 -- What is claimed of the visual order, and the column of an item by the stretches of levels around it.
-use Rattle.std.specs.Prelude.{◌≡◌, ℕ, zero, suc, ◌+◌, ◌-◌, ◌*◌, ◌<◌, ◌≤◌, true, false, List, [], ◌∷◌, ◌++◌, reverse, length, take, sum_by, sum, nat_le, slice_index}
+use Rattle.std.specs.Prelude.{◌≡◌, ℕ, zero, suc, ◌+◌, ◌-◌, ◌*◌, ◌<◌, ◌≤◌, true, false, List, ◌∷◌, ◌++◌, reverse, length, take, sum_by, sum, nat_le, slice_index}
 use Rattle.std.specs.List.{between, AllByRecursion as All}
-use Rattle.rules.specs.Order.{at, places, reversed, reordered, highest, L2, column_of}
+use Rattle.rules.specs.Order.{at, places, reversed, highest, L2, column_of}
 
 -- the places from i up to and without j
 abbrev pub span : ℕ → ℕ → List ℕ

@@ -1,7 +1,7 @@
 -- Worked paragraphs with their levels.
 use Rattle.std.specs.Prelude.{◌≡◌, ℕ, List, [], ◌∷◌}
 use Rattle.rules.specs.declared.classes.Class.{Class}
-use Rattle.rules.specs.declared.classes.Class.TheVariants.{L, R, AL, EN, ES, ET, AN, CS, NSM, S, WS, ON}
+use Rattle.rules.specs.declared.classes.Class.TheVariants.{L, R, AL, EN, ES, ET, AN, CS, NSM, WS}
 use Rattle.rules.specs.declared.classes.Direction.{Direction}
 use Rattle.rules.specs.declared.classes.Direction.TheVariants.{Left, FirstStrong}
 use Rattle.rules.specs.Rules.{base_direction, base_level, levels}

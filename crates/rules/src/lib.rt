@@ -1,4 +1,7 @@
 // The rules that give each item of a paragraph its level, and the contexts that give the same level from both sides.
+
+#![tactic(auto)]
+
 pub mod claims;
 pub mod classes;
 pub mod contexts;

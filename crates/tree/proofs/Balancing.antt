@@ -1,9 +1,9 @@
 -- That rotations keep a tree balanced. Assumes nothing.
-use Rattle.std.proofs.Common.{◌≡◌, ℕ, zero, suc, ◌+◌, ◌-◌, ◌<◌, ◌≤◌, max, Bool, true, false, cond, eqb, ltb, leb, ◌⊎◌, sym, refl, ap, ◌∙◌, subst, inl, inr, arith}
+use Rattle.std.proofs.Common.{◌≡◌, ℕ, ◌+◌, ◌-◌, ◌<◌, ◌≤◌, max, ltb, leb, ◌⊎◌, refl, inl, inr, arith}
 use Rattle.std.proofs.lemmas.Bool.{ltb-true, ltb-false, leb-true, leb-false, cond_both, cases_lt}
 use Rattle.tree.specs.Measures.{Operations}
 use Rattle.tree.specs.Shapes.{Shape, leaf, node, tall, size, Balanced}
-use Rattle.tree.specs.Surgery.{joined, rotate_right, rotate_left, double_right, double_left, rebalanced, inserted_at}
+use Rattle.tree.specs.Surgery.{joined, rotate_right, rotate_left, rebalanced, inserted_at}
 
 -- what s is to a and b, which it joins
 pub record Levelled {E T : Type 0} (a b s : Shape E T) : Type 0 where

@@ -1,16 +1,16 @@
 -- A part built from its two halves.
-use Rattle.std.proofs.Common.{◌≡◌, ℕ, zero, suc, ◌+◌, ◌-◌, ◌*◌, ◌/◌, ◌^◌, ◌<◌, ◌≤◌, max, List, [], ◌∷◌, ◌++◌, length, take, drop, Some, None, Option, sym, refl, ap, ◌∙◌, ap₂, ⊎_elim, arith, pow_pos, pow_mono}
+use Rattle.std.proofs.Common.{◌≡◌, ℕ, zero, suc, ◌+◌, ◌-◌, ◌/◌, ◌^◌, ◌<◌, ◌≤◌, List, [], ◌∷◌, ◌++◌, length, take, drop, Some, None, Option, sym, refl, ap, ◌∙◌, ap₂, ⊎_elim, arith, pow_pos, pow_mono}
 use native.Mathlib.Nat.{pow-succ'}
 use Rattle.std.specs.List.{slice_get, between}
 use Rattle.std.proofs.lemmas.List.{length-take-le}
 use Rattle.std.proofs.lemmas.Bool.{cases_lt}
 use Rattle.tree.specs.Building.{Even, Built}
 use Rattle.tree.specs.Measures.{Operations}
-use Rattle.tree.specs.Shapes.{Shape, leaf, node, tall, size, elements, Balanced, Totalled, uses, one, Whole}
+use Rattle.tree.specs.Shapes.{Shape, leaf, node, tall, size, elements, uses, one, Whole}
 use Rattle.tree.specs.Surgery.{joined, Split, Becomes}
 use Rattle.tree.specs.declared.row.Row.{Row}
 use Rattle.tree.proofs.Held.{tall_size}
-use Rattle.tree.proofs.Stretches.{between_none, between_left, between_both, between_whole}
+use Rattle.tree.proofs.Stretches.{between_none, between_left, between_both}
 use Rattle.tree.proofs.Writing.{one_here, one_else, spared, after}
 
 -- a lower power has a lower exponent

@@ -1,14 +1,14 @@
 -- What the soundness of the rows gives: the elements, the totals and the depths of the one tree that stands in them.
-use Rattle.std.proofs.Common.{◌≡◌, ℕ, ◌+◌, ◌-◌, ◌^◌, ◌<◌, ◌≤◌, min, List, [], ◌∷◌, length, take, drop, set, Some, None, Option, sym, refl, ap, ◌∙◌, subst, arith}
-use mathlib.Core.List.{isSet}
+use Rattle.std.proofs.Common.{◌≡◌, ℕ, ◌+◌, ◌-◌, ◌^◌, ◌<◌, ◌≤◌, min, List, length, take, drop, set, Some, sym, ap, ◌∙◌, subst, arith}
+use mathlib.Core.List.{is_set}
 use mathlib.Core.Logic.{∥∥₁_elim, ∥∥₁_map}
 use native.Mathlib.Bridge.{le_prop}
 use Rattle.std.specs.List.{slice_get, insert, remove}
 use Rattle.tree.specs.Measures.{Operations, Laws, unit, total_of}
 use Rattle.tree.specs.Plain.{first_over}
-use Rattle.tree.specs.Shapes.{Shape, size, elements, depth, top_total, Totalled, Sound, shape_of}
+use Rattle.tree.specs.Shapes.{Shape, elements, depth, top_total, Totalled, Sound, shape_of}
 use Rattle.tree.specs.Sides.{Sides, Around}
-use Rattle.tree.specs.Surgery.{part_of, inserted_at, removed_at}
+use Rattle.tree.specs.Surgery.{part_of}
 use Rattle.tree.specs.Weights.{over, weight_of}
 use Rattle.tree.specs.Changes.{Insertion, Removal, Setting}
 use Rattle.tree.specs.Trees.{least, places_at}
@@ -60,31 +60,31 @@ module _ {E T : Type 0} {rows : List (Row E T)} {h : Heads} (some : Stands rows 
 
 -- an element is found in one way
 pub found_is : {E T : Type 0} {rows : List (Row E T)} {h : Heads} → IsSet E → Stands rows h → (p : ℕ) (x : E) → ((w : Sound rows h.root h.free h.used h.count) → slice_get (elements w.0) p ≡ Some x) → slice_get (elements (shape_in rows h)) p ≡ Some x
-found_is {E} {rows} {h} is-set some p x all =
-    from_list _ x (∥∥₁_elim some (isSet is-set _ _) (λ w. ap (λ s. as_list (slice_get (elements s) p)) (whole_shape w.0 w.2) ∙ ap as_list (all w)))
+found_is {E} {rows} {h} is_a_set some p x all =
+    from_list _ x (∥∥₁_elim some (is_set is_a_set _ _) (λ w. ap (λ s. as_list (slice_get (elements s) p)) (whole_shape w.0 w.2) ∙ ap as_list (all w)))
 
-module _ {E T : Type 0} {k : Operations E T} (laws : Laws k) {rows : List (Row E T)} {h : Heads} (some : Stands rows h) (is-set : IsSet T) (p : ℕ) (r : T × E × T) (all : (w : Sound rows h.root h.free h.used h.count) → Around k w.0 p k.unit k.unit r) (t : Totalled k (shape_in rows h)) where
+module _ {E T : Type 0} {k : Operations E T} (laws : Laws k) {rows : List (Row E T)} {h : Heads} (some : Stands rows h) (is_a_set : IsSet T) (p : ℕ) (r : T × E × T) (all : (w : Sound rows h.root h.free h.used h.count) → Around k w.0 p k.unit k.unit r) (t : Totalled k (shape_in rows h)) where
   both_sides : (w : Sound rows h.root h.free h.used h.count) → Sides k (shape_in rows h) p k.unit k.unit r.0 r.2
   both_sides w = let s = whole_shape w.0 w.2 in subst (λ x. Sides k x p k.unit k.unit r.0 r.2) (sym s) ((all w).sides (subst (Totalled k) s t) unit unit)
 
   pub before_is : r.0 ≡ total_of k (take p (elements (shape_in rows h)))
-  before_is = ∥∥₁_elim some (is-set _ _) (λ w. (both_sides w).0 ∙ laws.left _ (sum_lawful laws (take p (elements (shape_in rows h)))))
+  before_is = ∥∥₁_elim some (is_a_set _ _) (λ w. (both_sides w).0 ∙ laws.left _ (sum_lawful laws (take p (elements (shape_in rows h)))))
 
   pub behind_is : r.2 ≡ total_of k (drop (p + 1) (elements (shape_in rows h)))
-  behind_is = ∥∥₁_elim some (is-set _ _) (λ w. (both_sides w).1 ∙ laws.right _ (sum_lawful laws (drop (p + 1) (elements (shape_in rows h)))))
+  behind_is = ∥∥₁_elim some (is_a_set _ _) (λ w. (both_sides w).1 ∙ laws.right _ (sum_lawful laws (drop (p + 1) (elements (shape_in rows h)))))
 
 module _ {E T : Type 0} (k : Operations E T) {old rows : List (Row E T)} {was is : Heads} {place : ℕ} {x : E} (some : Stands old was) where
   pub sound_inserted : Insertion k old rows was is place x → Stands rows is
   sound_inserted t = ∥∥₁_map some (λ w. let r = t w.0 w.1 w.2 in (_, r.1, r.2))
 
   pub elements_inserted : IsSet E → place ≤ was.count → Insertion k old rows was is place x → elements (shape_in rows is) ≡ insert (elements (shape_in old was)) place x
-  elements_inserted is-set h t = ∥∥₁_elim some (isSet is-set _ _) (λ w.
+  elements_inserted is_a_set h t = ∥∥₁_elim some (is_set is_a_set _ _) (λ w.
       let r = t w.0 w.1 w.2 in
       let n = w.2.counted in
       ap elements (whole_shape _ r.2) ∙ list_put k w.0 place r.0 x (omega arith) ∙ sym (ap (λ s. insert (elements s) place x) (whole_shape w.0 w.2)))
 
   pub totals_inserted : IsSet T → Insertion k old rows was is place x → Totalled k (shape_in old was) → Totalled k (shape_in rows is)
-  totals_inserted is-set t h = ∥∥₁_elim some (totalled_prop k is-set _) (λ w.
+  totals_inserted is_a_set t h = ∥∥₁_elim some (totalled_prop k is_a_set _) (λ w.
       let r = t w.0 w.1 w.2 in
       subst (Totalled k) (sym (whole_shape _ r.2)) (totalled_insert k w.0 place r.0 x (subst (Totalled k) (whole_shape w.0 w.2) h)))
 
@@ -92,29 +92,29 @@ module _ {E T : Type 0} (k : Operations E T) {old rows : List (Row E T)} {was is
   sound_removed t = ∥∥₁_map some (λ w. let r = (t w.0 w.1 w.2).0 in (_, r.0, r.1))
 
   pub elements_removed : IsSet E → place < was.count → Removal k old rows was is place x → elements (shape_in rows is) ≡ remove (elements (shape_in old was)) place
-  elements_removed is-set h t = ∥∥₁_elim some (isSet is-set _ _) (λ w.
+  elements_removed is_a_set h t = ∥∥₁_elim some (is_set is_a_set _ _) (λ w.
       let r = (t w.0 w.1 w.2).0 in
       let n = w.2.counted in
       ap elements (whole_shape _ r.1) ∙ list_out k w.0 place (omega arith) ∙ sym (ap (λ s. remove (elements s) place) (whole_shape w.0 w.2)))
 
   pub totals_removed : IsSet T → Removal k old rows was is place x → Totalled k (shape_in old was) → Totalled k (shape_in rows is)
-  totals_removed is-set t h = ∥∥₁_elim some (totalled_prop k is-set _) (λ w.
+  totals_removed is_a_set t h = ∥∥₁_elim some (totalled_prop k is_a_set _) (λ w.
       let r = (t w.0 w.1 w.2).0 in
       subst (Totalled k) (sym (whole_shape _ r.1)) (totalled_out k w.0 place (subst (Totalled k) (whole_shape w.0 w.2) h)))
 
   pub found_removed : IsSet E → Removal k old rows was is place x → slice_get (elements (shape_in old was)) place ≡ Some x
-  found_removed is-set t = found_is {rows = old} is-set some place x (λ w. (t w.0 w.1 w.2).1)
+  found_removed is_a_set t = found_is {rows = old} is_a_set some place x (λ w. (t w.0 w.1 w.2).1)
 
 module _ {E T : Type 0} (k : Operations E T) {old rows : List (Row E T)} {h : Heads} {place : ℕ} {x : E} (some : Stands old h) where
   pub sound_set : Setting k old rows h place x → Stands rows h
   sound_set t = ∥∥₁_map some (λ w. (_, w.1, t w.0 w.1 w.2))
 
   pub elements_set : IsSet E → Setting k old rows h place x → elements (shape_in rows h) ≡ set (elements (shape_in old h)) place x
-  elements_set is-set t = ∥∥₁_elim some (isSet is-set _ _) (λ w.
+  elements_set is_a_set t = ∥∥₁_elim some (is_set is_a_set _ _) (λ w.
       ap elements (whole_shape _ (t w.0 w.1 w.2)) ∙ list_changed k w.0 place x ∙ sym (ap (λ s. set (elements s) place x) (whole_shape w.0 w.2)))
 
   pub totals_set : IsSet T → Setting k old rows h place x → Totalled k (shape_in old h) → Totalled k (shape_in rows h)
-  totals_set is-set t u = ∥∥₁_elim some (totalled_prop k is-set _) (λ w.
+  totals_set is_a_set t u = ∥∥₁_elim some (totalled_prop k is_a_set _) (λ w.
       subst (Totalled k) (sym (whole_shape _ (t w.0 w.1 w.2))) (totalled_changed k w.0 place x (subst (Totalled k) (whole_shape w.0 w.2) u)))
 
 module _ {E T : Type 0} {k : Operations E T} (laws : Laws k) {rows : List (Row E T)} {h : Heads} (some : Stands rows h) (t : Totalled k (shape_in rows h)) where

@@ -1,13 +1,12 @@
 -- What the rows below a link hold. Assumes nothing.
-use Rattle.std.proofs.Common.{◌≡◌, ℕ, zero, suc, ◌+◌, ◌-◌, ◌<◌, ◌≤◌, max, List, [], ◌∷◌, ◌++◌, length, Some, None, Option, sym, refl, ap, ◌∙◌, subst, arith, length-append}
+use Rattle.std.proofs.Common.{◌≡◌, ℕ, zero, suc, ◌+◌, ◌<◌, ◌≤◌, List, [], ◌∷◌, ◌++◌, length, Some, None, Option, sym, refl, ap, ◌∙◌, arith, length-append}
 use mathlib.Core.Logic.{∥∥₁_elim}
 use native.Mathlib.Bridge.{le_prop}
 use Rattle.std.specs.List.{slice_get}
-use Rattle.std.proofs.lemmas.Option.{slice_get_past, slice_get_read}
 use Rattle.tree.specs.declared.row.Row.{Row}
 use Rattle.tree.specs.Measures.{Operations}
-use Rattle.tree.specs.Shapes.{Shape, leaf, node, top, tall, size, elements, row_of, Rep, Under, depth, uses, one}
-use Rattle.tree.specs.Surgery.{height_at, row_height, part_of, Split, Becomes}
+use Rattle.tree.specs.Shapes.{Shape, leaf, node, tall, size, elements, row_of, Under}
+use Rattle.tree.specs.Surgery.{height_at, row_height, part_of}
 
 pub nth_within : {X : Type 0} (xs : List X) (i : ℕ) (x : X) → slice_get xs i ≡ Some x → i < length xs
 nth_within [] i x e = let z : ◌≡◌ {A = ℕ} 0 1 = cc in omega arith

@@ -1,5 +1,5 @@
 -- One change or one question more, written behind what was written.
-use Rattle.std.proofs.Common.{◌≡◌, ℕ, ◌+◌, ◌<◌, ◌≤◌, List, [], ◌∷◌, ◌++◌, map, length, take, drop, set, sym, refl, ap, ◌∙◌, arith}
+use Rattle.std.proofs.Common.{◌≡◌, ℕ, ◌+◌, ◌<◌, List, [], ◌∷◌, ◌++◌, map, length, take, drop, set, sym, refl, ap, ◌∙◌, arith}
 use Rattle.std.proofs.lemmas.List.{map-append, take_more_set, drop-set-lt, drop-drop}
 use Rattle.tree.specs.History.{change_answer, after_change, after_all, answers_all}
 use Rattle.tree.specs.declared.request.Change.{Change}

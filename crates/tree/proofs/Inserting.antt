@@ -1,14 +1,13 @@
 -- Inserting, over shapes and over rows. Assumes nothing.
-use Rattle.std.proofs.Common.{◌≡◌, ℕ, zero, suc, ◌+◌, ◌-◌, ◌<◌, ◌≤◌, max, Bool, true, false, cond, eqb, ltb, leb, List, [], ◌∷◌, ◌++◌, length, set, Some, None, Option, sym, refl, ap, ◌∙◌, subst, arith}
-use Rattle.std.specs.List.{slice_get}
-use Rattle.std.proofs.lemmas.Bool.{le-leb, lt-leb, lt-ltb, le-ltb, cond-true, cond-false, cond_both}
+use Rattle.std.proofs.Common.{◌≡◌, ℕ, ◌+◌, ◌-◌, ◌<◌, ◌≤◌, ltb, leb, List, length, None, Option, sym, refl, ap, ◌∙◌, subst, arith}
+use Rattle.std.proofs.lemmas.Bool.{le-leb, lt-leb, lt-ltb, le-ltb, cond-true, cond-false}
 use Rattle.tree.specs.declared.row.Row.{Row}
 use Rattle.tree.specs.Measures.{Operations}
-use Rattle.tree.specs.Shapes.{Shape, leaf, node, top, tall, size, row_of, Rep, Under, uses, one}
-use Rattle.tree.specs.Surgery.{joined, Split, Becomes, Fresh, rotate_right, rotate_left, double_right, double_left, rebalanced, inserted_at}
-use Rattle.tree.proofs.Held.{Opened, opened}
+use Rattle.tree.specs.Shapes.{Shape, leaf, node, tall, size, uses, one}
+use Rattle.tree.specs.Surgery.{joined, Split, Becomes, Fresh, rotate_right, rotate_left, rebalanced, inserted_at}
+use Rattle.tree.proofs.Held.{Opened}
 use Rattle.tree.proofs.Writing.{spared, after}
-use Rattle.tree.proofs.Shaping.{Alike, alike, More, more}
+use Rattle.tree.proofs.Shaping.{alike, more}
 
 module _ {E T : Type 0} (k : Operations E T) {rows : List (Row E T)} {link : Option ℕ} {place fresh i : ℕ} {row : Row E T} {s : Shape E T} (w : Fresh rows link place fresh s) (o : Opened rows i row s) where
   parts : (n : ℕ) → uses o.a n + one i n + uses o.b n + one fresh n ≤ 1

@@ -1,15 +1,14 @@
 -- Reading a place below a link. Assumes nothing.
-use Rattle.std.proofs.Common.{◌≡◌, ℕ, zero, suc, ◌+◌, ◌-◌, ◌<◌, ◌≤◌, max, Bool, true, false, cond, eqb, ltb, List, [], ◌∷◌, ◌++◌, length, Some, None, Option, sym, refl, ap, ◌∙◌, subst, arith, length-append}
+use Rattle.std.proofs.Common.{◌≡◌, ℕ, suc, ◌+◌, ◌-◌, ◌<◌, ◌≤◌, eqb, ltb, List, ◌∷◌, Some, Option, ap, ◌∙◌, arith}
 use mathlib.Core.Logic.{∥∥₁_elim}
 use native.Mathlib.Bridge.{le_prop}
 use Rattle.std.specs.List.{slice_get}
 use Rattle.std.proofs.lemmas.Bool.Decides.{nat_tests}
 use Rattle.std.proofs.lemmas.Bool.{lt-ltb, le-ltb, eq-eqb, ne_eqb, cond-true, cond-false}
 use Rattle.tree.specs.declared.row.Row.{Row}
-use Rattle.tree.specs.Measures.{Operations}
-use Rattle.tree.specs.Shapes.{Shape, leaf, node, top, tall, size, elements, row_of, Rep, Under, depth}
-use Rattle.tree.specs.Surgery.{height_at, row_height}
-use Rattle.tree.proofs.Held.{nth_left, nth_right, length-elements, Opened, opened, within_of, height_is}
+use Rattle.tree.specs.Shapes.{Shape, leaf, node, tall, size, elements, Under, depth}
+use Rattle.tree.specs.Surgery.{height_at}
+use Rattle.tree.proofs.Held.{nth_left, nth_right, length-elements, opened, height_is}
 
 abbrev pub Reads : {E T : Type 0} → Shape E T → ℕ → E → ℕ → Type 0
 Reads s p x d = (slice_get (elements s) p ≡ Some x) × (d ≡ depth s p)

@@ -1,16 +1,16 @@
 -- Removing, over shapes and over rows. Assumes nothing.
-use Rattle.std.proofs.Common.{◌≡◌, ℕ, zero, suc, ◌+◌, ◌-◌, ◌<◌, ◌≤◌, max, Bool, true, false, cond, eqb, ltb, leb, ◌⊎◌, List, [], ◌∷◌, ◌++◌, length, Some, None, Option, sym, refl, ap, ◌∙◌, subst, inl, inr, ⊎_elim, arith}
+use Rattle.std.proofs.Common.{◌≡◌, ℕ, suc, ◌+◌, ◌-◌, ◌<◌, ◌≤◌, eqb, ltb, List, length, Some, None, Option, sym, refl, ap, ◌∙◌, subst, ⊎_elim, arith}
 use Rattle.std.specs.List.{slice_get}
 use Rattle.std.proofs.lemmas.Bool.{cases_eq, cases_lt, cond_both, cond-true, cond-false, lt-ltb, le-ltb, eq-eqb, ne_eqb}
 use Rattle.tree.specs.declared.row.Row.{Row}
 use Rattle.tree.specs.Measures.{Operations}
-use Rattle.tree.specs.Shapes.{Shape, leaf, node, top, tall, size, Under, uses, one, Rep, elements}
-use Rattle.tree.specs.Surgery.{joined, Split, Becomes, Loose, Sides, rebalanced, past, rest, merged, removed_at, last_row, last_of, row_in}
+use Rattle.tree.specs.Shapes.{Shape, leaf, node, size, Under, uses, one, Rep, elements}
+use Rattle.tree.specs.Surgery.{Split, Becomes, Loose, Sides, rebalanced, rest, merged, removed_at, last_row, last_of, row_in}
 use Rattle.tree.specs.Changes.{Removes}
 use Rattle.tree.specs.declared.remove.Detached.{Detached}
-use Rattle.tree.proofs.Held.{Opened, opened, nth_within, nth_left, nth_right, length-elements}
+use Rattle.tree.proofs.Held.{Opened, nth_within, nth_left, nth_right, length-elements}
 use Rattle.tree.proofs.Writing.{spared, after, one_here, one_else}
-use Rattle.tree.proofs.Shaping.{Alike, alike}
+use Rattle.tree.proofs.Shaping.{alike}
 
 -- what taking the row f out leaves
 pub record Fewer {E T : Type 0} (s t : Shape E T) (f : ℕ) : Type 0 where

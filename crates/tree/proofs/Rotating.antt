@@ -1,14 +1,11 @@
 -- The two rotations, over rows. Assumes nothing.
-use Rattle.std.proofs.Common.{◌≡◌, ℕ, zero, suc, ◌+◌, ◌-◌, ◌<◌, ◌≤◌, max, Bool, true, false, cond, eqb, ltb, leb, List, [], ◌∷◌, ◌++◌, length, set, Some, None, Option, sym, refl, ap, ◌∙◌, subst, arith}
-use mathlib.Core.Logic.{∥∥₁_elim}
-use native.Mathlib.Bridge.{le_prop}
-use Rattle.std.specs.List.{slice_get}
+use Rattle.std.proofs.Common.{◌≡◌, ℕ, ◌+◌, ◌<◌, ◌≤◌, leb, List, length, Some, None, Option, sym, refl, ap, ◌∙◌, subst, arith}
 use Rattle.std.proofs.lemmas.Bool.{le-leb, lt-leb, cond-true, cond-false}
 use Rattle.tree.specs.declared.row.Row.{Row}
 use Rattle.tree.specs.Measures.{Operations}
-use Rattle.tree.specs.Shapes.{Shape, leaf, node, top, tall, size, row_of, Rep, Under, uses, one}
+use Rattle.tree.specs.Shapes.{Shape, leaf, node, tall, size, Under, uses, one}
 use Rattle.tree.specs.Surgery.{joined, Split, Becomes, rotate_right, rotate_left, double_right, double_left}
-use Rattle.tree.proofs.Held.{Opened, opened, within_of}
+use Rattle.tree.proofs.Held.{Opened}
 use Rattle.tree.proofs.Writing.{spared, after}
 
 module _ {E T : Type 0} (k : Operations E T) {rows : List (Row E T)} {left right : Option ℕ} {i l : ℕ} {row : Row E T} {a b : Shape E T} (w : Split rows left i right a b) (o : Opened rows l row a) where

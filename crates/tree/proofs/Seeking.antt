@@ -1,8 +1,8 @@
 -- The total of a stretch, and the place that a weight leads to, from the two parts of a row.
-use Rattle.std.proofs.Common.{◌≡◌, ℕ, ◌+◌, ◌-◌, ◌<◌, ◌≤◌, List, [], ◌∷◌, ◌++◌, length, sum_by, Option, sym, refl, ap, ◌∙◌, subst, arith}
+use Rattle.std.proofs.Common.{◌≡◌, ℕ, ◌+◌, ◌-◌, ◌<◌, ◌≤◌, List, ◌∷◌, ◌++◌, length, sum_by, sym, ap, ◌∙◌, subst, arith}
 use Rattle.std.specs.List.{between}
 use Rattle.tree.specs.Measures.{Operations, Laws, of, total_of}
-use Rattle.tree.specs.Shapes.{Shape, node, size, elements, top_total, Totalled, Under}
+use Rattle.tree.specs.Shapes.{Shape, node, size, elements, top_total, Totalled}
 use Rattle.tree.specs.Surgery.{part_of}
 use Rattle.tree.specs.Weights.{over, weight_of}
 use Rattle.tree.specs.declared.row.Row.{Row}

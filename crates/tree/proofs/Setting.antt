@@ -1,12 +1,12 @@
 -- Another element at a place, over shapes, rows and lists.
-use Rattle.std.proofs.Common.{◌≡◌, ℕ, zero, suc, ◌+◌, ◌-◌, ◌<◌, ◌≤◌, max, eqb, ltb, List, [], ◌∷◌, ◌++◌, length, get_or, take, drop, set, Some, None, Option, sym, refl, ap, ◌∙◌, subst, append_assoc, arith, length-append, length-drop}
+use Rattle.std.proofs.Common.{◌≡◌, ℕ, zero, suc, ◌+◌, ◌-◌, ◌<◌, ◌≤◌, eqb, ltb, List, [], ◌∷◌, ◌++◌, length, get_or, take, drop, set, Some, Option, sym, refl, ap, ◌∙◌, subst, append_assoc, arith, length-append, length-drop}
 use Rattle.std.proofs.lemmas.List.{drop-drop, take_more, length-take-le, set_split}
 use Rattle.std.proofs.lemmas.Bool.{ltb-true, ltb-false, eqb-true, eqb-false, lt-ltb, le-ltb, eq-eqb, ne_eqb, cond-true, cond-false, cond_both}
 use Rattle.tree.specs.declared.row.Row.{Row}
 use Rattle.tree.specs.Changes.{TreeIn}
 use Rattle.tree.specs.Measures.{Operations}
 use Rattle.tree.specs.Plain.{spliced}
-use Rattle.tree.specs.Shapes.{Shape, leaf, node, top, tall, size, elements, Balanced, Totalled, uses, one, Whole}
+use Rattle.tree.specs.Shapes.{Shape, leaf, node, top, tall, size, elements, Balanced, Totalled, uses, one}
 use Rattle.tree.specs.Surgery.{joined, Split, Becomes, Loose, changed_at}
 use Rattle.tree.specs.declared.row.Heads.{Heads}
 use Rattle.tree.proofs.Held.{Opened, length-elements}

@@ -1,10 +1,10 @@
 -- What rotations and insertions do to a shape. Assumes nothing.
-use Rattle.std.proofs.Common.{◌≡◌, ℕ, zero, suc, ◌+◌, ◌-◌, ◌<◌, ◌≤◌, max, Bool, true, false, cond, eqb, ltb, leb, List, [], ◌∷◌, ◌++◌, length, take, drop, sym, refl, ap, ◌∙◌, subst, append_assoc, arith}
-use Rattle.std.proofs.lemmas.Bool.{ltb-true, ltb-false, leb-true, leb-false, cond_both}
+use Rattle.std.proofs.Common.{◌≡◌, ℕ, zero, suc, ◌+◌, ◌-◌, ◌≤◌, ltb, leb, List, [], ◌∷◌, ◌++◌, length, sym, refl, ap, ◌∙◌, append_assoc, arith}
+use Rattle.std.proofs.lemmas.Bool.{leb-true, leb-false, cond_both}
 use Rattle.std.specs.List.{insert}
 use Rattle.tree.specs.Measures.{Operations}
-use Rattle.tree.specs.Shapes.{Shape, leaf, node, top, tall, size, elements, top_total, Totalled, uses, one}
-use Rattle.tree.specs.Surgery.{joined, rotate_right, rotate_left, double_right, double_left, rebalanced, inserted_at}
+use Rattle.tree.specs.Shapes.{Shape, leaf, node, tall, size, elements, Totalled, uses, one}
+use Rattle.tree.specs.Surgery.{joined, rotate_right, rotate_left, rebalanced, inserted_at}
 use Rattle.tree.proofs.Held.{length-elements}
 
 -- what a rotation keeps

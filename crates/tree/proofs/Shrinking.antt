@@ -1,13 +1,13 @@
 -- What a removal does to the list, the balance and the totals. Assumes nothing.
-use Rattle.std.proofs.Common.{◌≡◌, ℕ, zero, suc, ◌+◌, ◌-◌, ◌<◌, ◌≤◌, max, Bool, true, false, cond, eqb, ltb, leb, ◌⊎◌, List, [], ◌∷◌, ◌++◌, length, take, drop, sym, refl, ap, ◌∙◌, subst, inl, inr, ⊎_elim, append_assoc, arith}
+use Rattle.std.proofs.Common.{◌≡◌, ℕ, zero, suc, ◌+◌, ◌-◌, ◌<◌, ◌≤◌, max, eqb, ltb, ◌⊎◌, List, [], ◌∷◌, ◌++◌, length, sym, refl, ap, ◌∙◌, inl, inr, ⊎_elim, append_assoc, arith}
 use Rattle.std.proofs.lemmas.Bool.{ltb-true, ltb-false, eqb-true, eqb-false, cond_both, cases_lt}
 use Rattle.std.specs.List.{remove}
 use Rattle.tree.specs.Measures.{Operations}
-use Rattle.tree.specs.Shapes.{Shape, leaf, node, tall, size, elements, top_total, Totalled, Balanced}
-use Rattle.tree.specs.Surgery.{joined, rebalanced, rest, merged, removed_at, last_row, last_of}
+use Rattle.tree.specs.Shapes.{Shape, leaf, node, tall, size, elements, Totalled, Balanced}
+use Rattle.tree.specs.Surgery.{rebalanced, rest, merged, removed_at, last_row, last_of}
 use Rattle.tree.proofs.Held.{length-elements}
-use Rattle.tree.proofs.Shaping.{Alike, alike, totalled_rebalanced}
-use Rattle.tree.proofs.Balancing.{Levelled, levelled}
+use Rattle.tree.proofs.Shaping.{alike, totalled_rebalanced}
+use Rattle.tree.proofs.Balancing.{levelled}
 
 out_left : {X : Type 0} (xs ys : List X) (i : ℕ) → i < length xs → remove (xs ++ ys) i ≡ remove xs i ++ ys
 out_left [] ys i h = absurd (omega arith)

@@ -1,10 +1,9 @@
 -- The totals on either side of a place of a part, from the two parts of its row.
-use Rattle.std.proofs.Common.{◌≡◌, ℕ, suc, ◌+◌, ◌-◌, ◌<◌, ◌≤◌, List, [], ◌∷◌, ◌++◌, length, take, drop, Some, sym, refl, ap, ◌∙◌, subst, arith}
-use Rattle.std.specs.List.{slice_get}
+use Rattle.std.proofs.Common.{◌≡◌, ℕ, suc, ◌+◌, ◌-◌, ◌<◌, ◌∷◌, length, take, drop, sym, ap, ◌∙◌, subst, arith}
 use Rattle.std.proofs.lemmas.List.{take_all, take-append-le, drop-append-le}
 use Rattle.tree.specs.Measures.{Operations, Lawful, Laws, of, join, total_of}
-use Rattle.tree.specs.Shapes.{Shape, leaf, node, size, elements, top_total, Totalled}
-use Rattle.tree.specs.Sides.{Sides, Around}
+use Rattle.tree.specs.Shapes.{Shape, node, size, elements, top_total, Totalled}
+use Rattle.tree.specs.Sides.{Around}
 use Rattle.tree.proofs.Held.{nth_left, nth_right, length-elements}
 use Rattle.tree.proofs.Stretches.{take_past, drop_past}
 use Rattle.tree.proofs.Totals.{sum_lawful, sum-append, mark_is}

@@ -1,9 +1,8 @@
 -- One element more out of a stretch, and one more into it.
-use Rattle.std.proofs.Common.{◌≡◌, ℕ, zero, suc, ◌+◌, ◌-◌, ◌<◌, ◌≤◌, List, [], ◌∷◌, ◌++◌, length, get_or, take, drop, Some, None, sym, refl, ap, ◌∙◌, ap₂, append_assoc, arith, length-append, length-drop, length-take}
-use Rattle.std.specs.List.{slice_get, insert, remove, between}
+use Rattle.std.proofs.Common.{◌≡◌, ℕ, zero, suc, ◌+◌, ◌-◌, ◌<◌, ◌≤◌, List, [], ◌∷◌, ◌++◌, length, get_or, take, drop, Some, sym, refl, ap, ◌∙◌, ap₂, append_assoc, arith, length-append, length-drop}
+use Rattle.std.specs.List.{slice_get, between}
 use Rattle.std.proofs.lemmas.Slice.{between_to_end}
 use Rattle.std.proofs.lemmas.List.{take_at, drop_at, drop-drop, take_more, take-append-drop, length-take-le, drop_all, append-nil}
-use Rattle.std.proofs.lemmas.Option.{slice_get-get_or}
 use Rattle.tree.specs.Plain.{after_remove, after_insert, spliced}
 use Rattle.tree.proofs.Plains.{remove_found, insert_fits}
 use Rattle.tree.proofs.Stretches.{take_past, drop_past}

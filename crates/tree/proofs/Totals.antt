@@ -1,5 +1,5 @@
 -- What the laws give of the totals. Assumes nothing.
-use Rattle.std.proofs.Common.{◌≡◌, List, [], ◌∷◌, ◌++◌, sym, refl, ap, ◌∙◌, subst}
+use Rattle.std.proofs.Common.{◌≡◌, List, [], ◌∷◌, ◌++◌, sym, refl, ap, ◌∙◌}
 use Rattle.tree.specs.Measures.{Operations, Lawful, Laws, unit, of, join, total_of}
 use Rattle.tree.specs.Shapes.{Shape, leaf, node, elements, top_total, Totalled}
 

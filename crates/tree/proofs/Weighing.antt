@@ -1,10 +1,10 @@
 -- Weights of few elements add up, so a place can be sought by the weights of the parts.
-use Rattle.std.proofs.Common.{◌≡◌, ℕ, zero, suc, ◌+◌, ◌-◌, ◌*◌, ◌<◌, ◌≤◌, min, cond, ltb, leb, ◌⊎◌, List, [], ◌∷◌, ◌++◌, length, sum_by, sym, refl, ap, ◌∙◌, inl, inr, ⊎_elim, arith, length-append}
-use Rattle.std.proofs.lemmas.List.Sums.{sum_by-cons, sum_by-append}
+use Rattle.std.proofs.Common.{◌≡◌, ℕ, ◌+◌, ◌-◌, ◌*◌, ◌<◌, ◌≤◌, ltb, List, [], ◌∷◌, ◌++◌, length, sum_by, sym, refl, ap, ◌∙◌, ⊎_elim, arith}
+use Rattle.std.proofs.lemmas.List.Sums.{sum_by-cons}
 use Rattle.std.proofs.lemmas.Bool.{lt-ltb, le-ltb, cond-true, cond-false, cases_lt}
-use Rattle.tree.specs.Measures.{Operations, Lawful, Laws, unit, of, join, total_of}
+use Rattle.tree.specs.Measures.{Operations, Lawful, Laws, of, join, total_of}
 use Rattle.tree.specs.Plain.{first_over}
-use Rattle.tree.specs.Shapes.{Shape, leaf, node, size, elements, top_total, Totalled}
+use Rattle.tree.specs.Shapes.{Shape, size, elements, top_total, Totalled}
 use Rattle.tree.specs.Weights.{over, weight_of}
 use Rattle.tree.proofs.Held.{length-elements}
 use Rattle.tree.proofs.Totals.{sum_lawful, mark_is}

@@ -1,17 +1,15 @@
 -- The whole tree: its shape read off the rows, and its free rows. Assumes nothing.
-use Rattle.std.proofs.Common.{◌≡◌, ℕ, zero, suc, ◌+◌, ◌-◌, ◌<◌, ◌≤◌, min, max, ltb, leb, ◌⊎◌, List, [], ◌∷◌, ◌++◌, length, set, Some, None, Option, sym, refl, ap, ◌∙◌, subst, inl, inr, ⊎_elim, arith, length-set}
-use mathlib.Core.HLevel.{×_prop, Unit-prop}
-use Rattle.std.specs.List.{slice_get, insert}
-use Rattle.std.proofs.lemmas.Bool.{cases_eq, lt-ltb, le-ltb, le-leb, lt-leb, cond-true, cond-false}
+use Rattle.std.proofs.Common.{◌≡◌, ℕ, zero, suc, ◌+◌, ◌-◌, ◌<◌, ◌≤◌, List, [], ◌∷◌, length, set, Some, None, Option, sym, refl, ap, ◌∙◌, subst, ⊎_elim, arith, length-set}
+use mathlib.Core.HLevel.{Unit-prop}
+use Rattle.std.specs.List.{slice_get}
+use Rattle.std.proofs.lemmas.Bool.{cases_eq}
 use Rattle.tree.specs.declared.row.Row.{Row}
 use Rattle.tree.specs.Measures.{Operations}
-use Rattle.tree.specs.Shapes.{Shape, leaf, node, top, tall, size, elements, top_total, Totalled, Under, uses, one, Balanced, times, Chain, Pool, Whole, grown, shape_at, shape_of}
+use Rattle.tree.specs.Shapes.{Shape, leaf, node, top, tall, size, Totalled, Under, uses, one, times, Chain, Pool, Whole, grown, shape_at, shape_of}
 use Rattle.tree.specs.Surgery.{Becomes, Fresh, Loose, inserted_at, removed_at, row_in}
-use mathlib.Core.Logic.{∥∥₁_elim}
-use native.Mathlib.Bridge.{le_prop}
-use Rattle.tree.proofs.Held.{nth_within, tall_size, length-elements}
+use Rattle.tree.proofs.Held.{nth_within, tall_size}
 use Rattle.tree.proofs.Writing.{one_here, one_else, nth_set_here, nth_set_else, keep}
-use Rattle.tree.proofs.Shaping.{More, more, list_put, totalled_insert}
+use Rattle.tree.proofs.Shaping.{more}
 use Rattle.tree.proofs.Balancing.{grown_put}
 use Rattle.tree.proofs.Removing.{taken, used_within}
 use Rattle.tree.proofs.Shrinking.{shrunk_out}

@@ -1,10 +1,9 @@
 -- What a write to the rows leaves. Assumes nothing.
-use Rattle.std.proofs.Common.{◌≡◌, ℕ, zero, suc, ◌+◌, ◌-◌, ◌<◌, ◌≤◌, max, Bool, true, false, cond, eqb, ltb, ◌⊎◌, List, [], ◌∷◌, ◌++◌, length, set, Some, None, Option, sym, refl, ap, ◌∙◌, subst, inl, inr, arith}
+use Rattle.std.proofs.Common.{◌≡◌, ℕ, zero, suc, ◌+◌, ◌<◌, ◌≤◌, eqb, List, [], ◌∷◌, length, set, Some, Option, refl, ap, ◌∙◌, arith}
 use Rattle.std.specs.List.{slice_get}
-use Rattle.std.proofs.lemmas.Bool.{eq-eqb, ne_eqb, cond-true, cond-false, cases_eq}
+use Rattle.std.proofs.lemmas.Bool.{eq-eqb, ne_eqb, cond-true, cond-false}
 use Rattle.tree.specs.declared.row.Row.{Row}
-use Rattle.tree.specs.Measures.{Operations}
-use Rattle.tree.specs.Shapes.{Shape, leaf, node, top, tall, size, row_of, Rep, Under, uses, one}
+use Rattle.tree.specs.Shapes.{Shape, leaf, node, row_of, Rep, Under, uses, one}
 use Rattle.tree.specs.Surgery.{Split, Becomes}
 
 pub one_here : (i n : ℕ) → i ≡ n → one i n ≡ 1

@@ -1,5 +1,5 @@
 -- A part built of elements, and the tree that it makes.
-use Rattle.std.specs.Prelude.{◌≡◌, ℕ, ◌+◌, ◌-◌, ◌*◌, ◌^◌, ◌<◌, ◌≤◌, List, [], Option}
+use Rattle.std.specs.Prelude.{◌≡◌, ℕ, ◌-◌, ◌*◌, ◌^◌, ◌<◌, ◌≤◌, List, [], Option}
 use Rattle.std.specs.List.{between}
 use Rattle.tree.specs.Changes.{TreeIn}
 use Rattle.tree.specs.Measures.{Operations}

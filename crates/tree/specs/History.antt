@@ -1,5 +1,5 @@
 -- The law of the tree over whole histories: it answers as a plain list that is fed the same calls.
-use Rattle.std.specs.Prelude.{◌≡◌, ℕ, ◌-◌, ◌^◌, ◌<◌, ◌≤◌, Bool, cond, List, [], ◌∷◌, map, length, take, Some, None, Ok, Err, Option, Result, nat_lt}
+use Rattle.std.specs.Prelude.{◌≡◌, ℕ, ◌-◌, ◌^◌, ◌<◌, ◌≤◌, cond, List, [], ◌∷◌, map, length, take, Some, None, Ok, Err, Option, Result, nat_lt}
 use Rattle.std.specs.List.{slice_get}
 use Rattle.tree.specs.Measures.{Operations}
 use Rattle.tree.specs.Plain.{numbered, found, with_depth, insert_answer, after_insert, remove_answer, after_remove, total_answer}

@@ -1,5 +1,5 @@
 -- The plain list: what it answers to each call, and what it then holds. The letter n of a refusal is its length.
-use Rattle.std.specs.Prelude.{◌≡◌, ℕ, ◌+◌, ◌-◌, min, Bool, true, false, cond, ◌&&◌, List, [], ◌∷◌, ◌++◌, length, take, drop, Some, None, Ok, Err, Option, Result, nat_le, nat_lt}
+use Rattle.std.specs.Prelude.{◌≡◌, ℕ, ◌+◌, ◌-◌, min, Bool, cond, ◌&&◌, List, [], ◌∷◌, ◌++◌, length, take, drop, Some, None, Ok, Err, Option, Result, nat_le, nat_lt}
 use Rattle.std.specs.List.{slice_get, insert, remove, between}
 use Rattle.tree.specs.Measures.{Operations, total_of}
 use Rattle.tree.specs.declared.fault.Fault.{Fault}

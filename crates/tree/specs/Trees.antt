@@ -1,5 +1,5 @@
 -- What is told of a tree: its elements, its capacity, its depths, and whether its stored totals are right.
-use Rattle.std.specs.Prelude.{ℕ, zero, suc, ◌+◌, min, cond, List, [], ◌∷◌, length, ◌==◌}
+use Rattle.std.specs.Prelude.{ℕ, zero, suc, ◌+◌, min, cond, List, length, ◌==◌}
 use Rattle.tree.specs.Measures.{Operations}
 use Rattle.tree.specs.Shapes.{Shape, elements, depth, Totalled, Sound, shape_of}
 use Rattle.tree.specs.declared.row.Row.{Row}

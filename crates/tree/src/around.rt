@@ -15,7 +15,7 @@ pub(crate) fn around_below<E: Copy, T: Measure<E>>(
     target: u16,
 ) -> (T, E, T)
     requires { ∥ ((s : Shape E T) × Under rows.now root s × (target < size s)) ∥₁ }
-    ensures { (s : Shape E T) → Under rows.now root s → target < size s → Around ops s target ops.unit ops.unit result }
+    ensures { (s : Shape E T) → Under rows.now root s → target < size s → Around T.ops s target T.ops.unit T.ops.unit result }
 {
     let mut link = root;
     let mut place = target;

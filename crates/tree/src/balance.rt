@@ -15,7 +15,7 @@ pub(crate) fn row_over<E: Copy, T: Measure<E>>(
     right: Option<u16>,
 ) -> Row<E, T>
     requires { ∥ ((a : Shape E T) × (b : Shape E T) × Under rows.now left a × Under rows.now right b × (size a + 1 + size b ≤ 4096)) ∥₁ }
-    ensures { (a b : Shape E T) → Under rows.now left a → Under rows.now right b → result ≡ row_of a element (ops.join (ops.join (top_total ops a) (ops.of element)) (top_total ops b)) b }
+    ensures { (a b : Shape E T) → Under rows.now left a → Under rows.now right b → result ≡ row_of a element (T.ops.join (T.ops.join (top_total T.ops a) (T.ops.of element)) (top_total T.ops b)) b }
 {
     let before = part_of(rows, left);
     let after = part_of(rows, right);
@@ -37,7 +37,7 @@ pub(crate) fn write_node<E: Copy, T: Measure<E>>(
     right: Option<u16>,
 )
     requires { ∥ ((a : Shape E T) × (b : Shape E T) × Split rows.old left i right a b) ∥₁ }
-    ensures { (a b : Shape E T) → Split rows.old left i right a b → Becomes rows.old rows.new (Some i) (joined ops a i element b) }
+    ensures { (a b : Shape E T) → Split rows.old left i right a b → Becomes rows.old rows.new (Some i) (joined T.ops a i element b) }
 {
     let row = row_over(rows, left, element, right);
     write_row(rows, i, row);
@@ -51,7 +51,7 @@ pub(crate) fn rotate_right<E: Copy, T: Measure<E>>(
     right: Option<u16>,
 ) -> u16
     requires { ∥ ((a : Shape E T) × (b : Shape E T) × Split rows.old left i right a b) ∥₁ }
-    ensures { (a b : Shape E T) → Split rows.old left i right a b → Becomes rows.old rows.new (Some result) (rotate_right ops a i element b) }
+    ensures { (a b : Shape E T) → Split rows.old left i right a b → Becomes rows.old rows.new (Some result) (rotate_right T.ops a i element b) }
 {
     let Some(l) = left else {
         write_node(rows, left, i, element, right);
@@ -82,7 +82,7 @@ pub(crate) fn rotate_left<E: Copy, T: Measure<E>>(
     right: Option<u16>,
 ) -> u16
     requires { ∥ ((a : Shape E T) × (b : Shape E T) × Split rows.old left i right a b) ∥₁ }
-    ensures { (a b : Shape E T) → Split rows.old left i right a b → Becomes rows.old rows.new (Some result) (rotate_left ops a i element b) }
+    ensures { (a b : Shape E T) → Split rows.old left i right a b → Becomes rows.old rows.new (Some result) (rotate_left T.ops a i element b) }
 {
     let Some(l) = right else {
         write_node(rows, left, i, element, right);
@@ -113,7 +113,7 @@ pub(crate) fn rebalance<E: Copy, T: Measure<E>>(
     right: Option<u16>,
 ) -> u16
     requires { ∥ ((a : Shape E T) × (b : Shape E T) × Split rows.old left i right a b) ∥₁ }
-    ensures { (a b : Shape E T) → Split rows.old left i right a b → Becomes rows.old rows.new (Some result) (rebalanced ops a i element b) }
+    ensures { (a b : Shape E T) → Split rows.old left i right a b → Becomes rows.old rows.new (Some result) (rebalanced T.ops a i element b) }
 {
     let before = height_of(rows, left);
     let after = height_of(rows, right);

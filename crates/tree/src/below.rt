@@ -58,7 +58,7 @@ pub(crate) fn height_of<E: Copy, T: Measure<E>>(rows: &[Row<E, T>], link: Option
 
 pub(crate) fn part_of<E: Copy, T: Measure<E>>(rows: &[Row<E, T>], link: Option<u16>) -> Part<T>
     requires { ∥ ((s : Shape E T) × Under rows.now link s × Unit {0}) ∥₁ }
-    ensures { (s : Shape E T) → Under rows.now link s → result ≡ part_of ops s }
+    ensures { (s : Shape E T) → Under rows.now link s → result ≡ part_of T.ops s }
 {
     match link {
         Some(i) => {

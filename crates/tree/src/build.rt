@@ -19,7 +19,7 @@ pub(crate) fn build_below<E: Copy, T: Measure<E>>(
     requires within { end ≤ length elements.now }
     requires space { end ≤ length rows.old }
     requires room { end ≤ 4096 }
-    ensures { Builds ops rows.old rows.new elements.now first end result }
+    ensures { Builds T.ops rows.old rows.new elements.now first end result }
 {
     if first == end {
         return None;
@@ -36,7 +36,7 @@ pub(crate) fn build_below<E: Copy, T: Measure<E>>(
 pub(crate) fn fill_in<E: Copy, T: Measure<E>>(rows: &mut [Row<E, T>], elements: &[E]) -> Heads
     requires space { length elements.now ≤ length rows.old }
     requires room { length elements.now ≤ 4096 }
-    ensures { Filling ops rows.new result elements.now }
+    ensures { Filling T.ops rows.new result elements.now }
 {
     let count = elements.len() as u16;
     let root = build_below(rows, elements, 0, count);

@@ -22,7 +22,7 @@ impl<'a, E: Copy, T: Measure<E>> Tree<'a, E, T> {
     /// An empty tree, whatever the rows held.
     pub fn open(rows: &'a mut [Row<E, T>]) -> Self
         ensures elements { elements_of result ≡ [] }
-        ensures totals { TotalsRight ops result }
+        ensures totals { TotalsRight T.ops result }
         ensures capacity { capacity_of result ≡ min 4096 (length rows.old) }
     {
         Tree {
@@ -34,7 +34,7 @@ impl<'a, E: Copy, T: Measure<E>> Tree<'a, E, T> {
     /// Drops every element; the rows can all be used again.
     pub fn clear(&mut self)
         ensures elements { elements_of self.new ≡ [] }
-        ensures totals { TotalsRight ops self.new }
+        ensures totals { TotalsRight T.ops self.new }
         ensures capacity { capacity_of self.new ≡ capacity_of self.old }
     {
         self.heads = Heads::EMPTY;
@@ -60,7 +60,7 @@ impl<'a, E: Copy, T: Measure<E>> Tree<'a, E, T> {
         ensures answer { numbered result ≡ insert_answer (capacity_of self.old) (elements_of self.old) place }
         ensures elements { elements_of self.new ≡ after_insert (capacity_of self.old) (elements_of self.old) place element }
         ensures refused { Untouched result self.old self.new }
-        ensures totals { TotalsRight ops self.old → TotalsRight ops self.new }
+        ensures totals { TotalsRight T.ops self.old → TotalsRight T.ops self.new }
         ensures capacity { capacity_of self.new ≡ capacity_of self.old }
     {
         let heads = self.heads;
@@ -79,7 +79,7 @@ impl<'a, E: Copy, T: Measure<E>> Tree<'a, E, T> {
         ensures answer { numbered result ≡ remove_answer (elements_of self.old) place }
         ensures elements { elements_of self.new ≡ after_remove (elements_of self.old) place }
         ensures refused { Untouched result self.old self.new }
-        ensures totals { TotalsRight ops self.old → TotalsRight ops self.new }
+        ensures totals { TotalsRight T.ops self.old → TotalsRight T.ops self.new }
         ensures capacity { capacity_of self.new ≡ capacity_of self.old }
     {
         let heads = self.heads;
@@ -105,7 +105,7 @@ impl<'a, E: Copy, T: Measure<E>> Tree<'a, E, T> {
 
     /// The element at a place, between the total of all elements before it and the total of all behind it.
     pub fn around(&self, place: usize) -> Result<(T, E, T), Fault>
-        ensures answer { TotalsRight ops self.now → numbered result ≡ around_answer ops (elements_of self.now) place }
+        ensures answer { TotalsRight T.ops self.now → numbered result ≡ around_answer T.ops (elements_of self.now) place }
         ensures refusal { is_ok result ≡ nat_lt place (length (elements_of self.now)) }
     {
         if place >= self.heads.count as usize {
@@ -137,7 +137,7 @@ impl<'a, E: Copy, T: Measure<E>> Tree<'a, E, T> {
 
     /// The total of a stretch: the totals of its elements, joined first to last.
     pub fn total(&self, first: usize, end: usize) -> Result<T, Fault>
-        ensures answer { TotalsRight ops self.now → numbered result ≡ total_answer ops (elements_of self.now) first end }
+        ensures answer { TotalsRight T.ops self.now → numbered result ≡ total_answer T.ops (elements_of self.now) first end }
         ensures refusal { is_ok result ≡ fits (elements_of self.now) first end }
     {
         if first > end {
@@ -151,7 +151,7 @@ impl<'a, E: Copy, T: Measure<E>> Tree<'a, E, T> {
 
     /// The first place whose element, with all before it, weighs more than `weight`.
     pub fn seek(&self, weight: u32) -> Result<usize, Fault>
-        ensures { TotalsRight ops self.now → numbered result ≡ seek_answer ops (elements_of self.now) weight }
+        ensures { TotalsRight T.ops self.now → numbered result ≡ seek_answer T.ops (elements_of self.now) weight }
     {
         let whole = part_of(self.rows.all, self.heads.root);
         if whole.total.weight() <= weight {

@@ -25,7 +25,7 @@ impl<E: Copy, T: Measure<E>> Tree<'_, E, T> {
         ensures answer { numbered result ≡ change_answer (capacity_of self.old) (elements_of self.old) change }
         ensures elements { elements_of self.new ≡ after_change (capacity_of self.old) (elements_of self.old) change }
         ensures refused { Untouched result self.old self.new }
-        ensures totals { TotalsRight ops self.old → TotalsRight ops self.new }
+        ensures totals { TotalsRight T.ops self.old → TotalsRight T.ops self.new }
         ensures capacity { capacity_of self.new ≡ capacity_of self.old }
     {
         match change {
@@ -42,7 +42,7 @@ impl<E: Copy, T: Measure<E>> Tree<'_, E, T> {
 
     /// Answers a question.
     pub fn ask(&self, question: Question) -> Result<Told<E, T>, Fault>
-        ensures { TotalsRight ops self.now → numbered result ≡ question_answer ops (elements_of self.now) (depth_in self.now) question }
+        ensures { TotalsRight T.ops self.now → numbered result ≡ question_answer T.ops (elements_of self.now) (depth_in self.now) question }
     {
         match question {
             Question::Read { place } => match self.read(place) {
@@ -65,7 +65,7 @@ impl<E: Copy, T: Measure<E>> Tree<'_, E, T> {
         answers: &mut [Result<Told<E, T>, Fault>],
     ) -> Result<(), Unrecorded>
         ensures answer { result ≡ short_list (length changes.now) (length outcomes.old) (length questions.now) (length answers.old) }
-        ensures law { OnOk result (History ops (capacity_of self.old) changes.now outcomes.new questions.now answers.new self.new) }
+        ensures law { OnOk result (History T.ops (capacity_of self.old) changes.now outcomes.new questions.now answers.new self.new) }
         ensures spare { OnOk result ((drop (length changes.now) outcomes.new ≡ drop (length changes.now) outcomes.old) × (drop (length questions.now) answers.new ≡ drop (length questions.now) answers.old)) }
         ensures refused { Untouched result self.old self.new × Untouched result outcomes.old outcomes.new × Untouched result answers.old answers.new }
     {
@@ -86,7 +86,7 @@ impl<E: Copy, T: Measure<E>> Tree<'_, E, T> {
         ensures elements { elements_of self.new ≡ after_all (capacity_of self.old) (elements_of self.old) changes.now }
         ensures answered { map numbered (take (length changes.now) outcomes.new) ≡ answers_all (capacity_of self.old) (elements_of self.old) changes.now }
         ensures spare { drop (length changes.now) outcomes.new ≡ drop (length changes.now) outcomes.old }
-        ensures totals { TotalsRight ops self.old → TotalsRight ops self.new }
+        ensures totals { TotalsRight T.ops self.old → TotalsRight T.ops self.new }
     {
         for (i, change) in changes.iter().enumerate() {
             outcomes[i] = self.change(*change);
@@ -95,7 +95,7 @@ impl<E: Copy, T: Measure<E>> Tree<'_, E, T> {
 
     fn ask_all(&self, questions: &[Question], answers: &mut [Result<Told<E, T>, Fault>])
         requires { length questions.now ≤ length answers.old }
-        ensures told { TotalsRight ops self.now → map numbered (take (length questions.now) answers.new) ≡ map (question_answer ops (elements_of self.now) (depth_in self.now)) questions.now }
+        ensures told { TotalsRight T.ops self.now → map numbered (take (length questions.now) answers.new) ≡ map (question_answer T.ops (elements_of self.now) (depth_in self.now)) questions.now }
         ensures spare { drop (length questions.now) answers.new ≡ drop (length questions.now) answers.old }
     {
         for (i, question) in questions.iter().enumerate() {

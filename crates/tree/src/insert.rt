@@ -17,7 +17,7 @@ pub(crate) fn insert_below<E: Copy, T: Measure<E>>(
     element: E,
 ) -> u16
     requires { ∥ ((s : Shape E T) × Fresh rows.old link place fresh s) ∥₁ }
-    ensures { (s : Shape E T) → Fresh rows.old link place fresh s → Becomes rows.old rows.new (Some result) (inserted_at ops s place fresh element) }
+    ensures { (s : Shape E T) → Fresh rows.old link place fresh s → Becomes rows.old rows.new (Some result) (inserted_at T.ops s place fresh element) }
 {
     let Some(i) = link else {
         write_node(rows, None, fresh, element, None);

@@ -1,5 +1,7 @@
 //! A balanced tree of elements in a table of rows that its caller lends.
 
+#![tactic(auto)]
+
 mod around;
 mod balance;
 mod below;

@@ -51,7 +51,7 @@ pub(crate) fn insert_in<E: Copy, T: Measure<E>>(
     requires within { place ≤ heads.count }
     requires room { heads.count < 4096 }
     requires space { heads.count < length rows.old }
-    ensures { Insertion ops rows.old rows.new heads result place element }
+    ensures { Insertion T.ops rows.old rows.new heads result place element }
 {
     let taken = take_row(rows, heads.free, heads.used);
     let root = insert_below(rows, heads.root, place, taken.row, element);
@@ -71,7 +71,7 @@ pub(crate) fn remove_in<E: Copy, T: Measure<E>>(
 ) -> (Heads, E)
     requires sound { ∥ (Sound rows.old heads.root heads.free heads.used heads.count) ∥₁ }
     requires within { place < heads.count }
-    ensures { Removal ops rows.old rows.new heads result.0 place result.1 }
+    ensures { Removal T.ops rows.old rows.new heads result.0 place result.1 }
 {
     let out = remove_below(rows, heads.root, place);
     let row = row_at(rows, out.row);
@@ -101,7 +101,7 @@ pub(crate) fn set_in<E: Copy, T: Measure<E>>(
 )
     requires sound { ∥ (Sound rows.old heads.root heads.free heads.used heads.count) ∥₁ }
     requires within { place < heads.count }
-    ensures { Setting ops rows.old rows.new heads place element }
+    ensures { Setting T.ops rows.old rows.new heads place element }
 {
     set_below(rows, heads.root, place, element);
 }
@@ -112,7 +112,7 @@ impl<E: Copy, T: Measure<E>> Rows<'_, E, T> {
         requires within { place ≤ heads.count }
         requires room { heads.count < 4096 }
         requires space { heads.count < length self.old.all.now }
-        ensures whole { Insertion ops self.old.all.now self.new.all.now heads result place element }
+        ensures whole { Insertion T.ops self.old.all.now self.new.all.now heads result place element }
         ensures long { length self.new.all.now ≡ length self.old.all.now }
     {
         insert_in(self.all, heads, place, element)
@@ -121,7 +121,7 @@ impl<E: Copy, T: Measure<E>> Rows<'_, E, T> {
     pub(crate) fn remove(&mut self, heads: Heads, place: u16) -> (Heads, E)
         requires sound { ∥ (Sound self.old.all.now heads.root heads.free heads.used heads.count) ∥₁ }
         requires within { place < heads.count }
-        ensures whole { Removal ops self.old.all.now self.new.all.now heads result.0 place result.1 }
+        ensures whole { Removal T.ops self.old.all.now self.new.all.now heads result.0 place result.1 }
         ensures long { length self.new.all.now ≡ length self.old.all.now }
     {
         remove_in(self.all, heads, place)
@@ -130,7 +130,7 @@ impl<E: Copy, T: Measure<E>> Rows<'_, E, T> {
     pub(crate) fn set(&mut self, heads: Heads, place: u16, element: E)
         requires sound { ∥ (Sound self.old.all.now heads.root heads.free heads.used heads.count) ∥₁ }
         requires within { place < heads.count }
-        ensures whole { Setting ops self.old.all.now self.new.all.now heads place element }
+        ensures whole { Setting T.ops self.old.all.now self.new.all.now heads place element }
         ensures long { length self.new.all.now ≡ length self.old.all.now }
     {
         set_in(self.all, heads, place, element);
@@ -139,7 +139,7 @@ impl<E: Copy, T: Measure<E>> Rows<'_, E, T> {
     pub(crate) fn fill(&mut self, elements: &[E]) -> Heads
         requires space { length elements.now ≤ length self.old.all.now }
         requires room { length elements.now ≤ 4096 }
-        ensures whole { Filling ops self.new.all.now result elements.now }
+        ensures whole { Filling T.ops self.new.all.now result elements.now }
         ensures long { length self.new.all.now ≡ length self.old.all.now }
     {
         fill_in(self.all, elements)

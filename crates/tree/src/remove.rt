@@ -21,7 +21,7 @@ pub(crate) struct Detached<E> {
 /// Detaches the last row of a part.
 pub(crate) fn detach_last<E: Copy, T: Measure<E>>(rows: &mut [Row<E, T>], i: u16) -> Detached<E>
     requires { ∥ ((s : Shape E T) × Loose rows.old (Some i) s) ∥₁ }
-    ensures turned { (s : Shape E T) → Loose rows.old (Some i) s → Becomes rows.old rows.new result.rest (without_last ops s) }
+    ensures turned { (s : Shape E T) → Loose rows.old (Some i) s → Becomes rows.old rows.new result.rest (without_last T.ops s) }
     ensures named { (s : Shape E T) (n : ℕ) (d : E) → Loose rows.old (Some i) s → (result.row ≡ last_row n s) × (result.element ≡ last_of d s) }
 {
     let row = row_at(rows, i);
@@ -48,7 +48,7 @@ pub(crate) fn merge<E: Copy, T: Measure<E>>(
     right: Option<u16>,
 ) -> Option<u16>
     requires { ∥ ((a : Shape E T) × (b : Shape E T) × Sides rows.old left right a b) ∥₁ }
-    ensures { (a b : Shape E T) → Sides rows.old left right a b → Becomes rows.old rows.new result (merged ops a b) }
+    ensures { (a b : Shape E T) → Sides rows.old left right a b → Becomes rows.old rows.new result (merged T.ops a b) }
 {
     let Some(l) = left else {
         return right;
@@ -64,7 +64,7 @@ pub(crate) fn remove_below<E: Copy, T: Measure<E>>(
     place: u16,
 ) -> Detached<E>
     requires { ∥ ((s : Shape E T) × Loose rows.old link s × (place < size s)) ∥₁ }
-    ensures { (s : Shape E T) → Loose rows.old link s → place < size s → Removes ops rows.old rows.new s place result }
+    ensures { (s : Shape E T) → Loose rows.old link s → place < size s → Removes T.ops rows.old rows.new s place result }
 {
     let Some(i) = link else { unreachable() };
     let row = row_at(rows, i);

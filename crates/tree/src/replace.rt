@@ -14,7 +14,7 @@ impl<E: Copy, T: Measure<E>> Tree<'_, E, T> {
         ensures answer { numbered result ≡ replace_answer (capacity_of self.old) (elements_of self.old) first end elements.now }
         ensures elements { elements_of self.new ≡ after_replace (capacity_of self.old) (elements_of self.old) first end elements.now }
         ensures refused { Untouched result self.old self.new }
-        ensures totals { TotalsRight ops self.old → TotalsRight ops self.new }
+        ensures totals { TotalsRight T.ops self.old → TotalsRight T.ops self.new }
         ensures capacity { capacity_of self.new ≡ capacity_of self.old }
     {
         let count = self.len();
@@ -40,7 +40,7 @@ impl<E: Copy, T: Measure<E>> Tree<'_, E, T> {
     fn fill(&mut self, elements: &[E])
         requires { length elements.now ≤ capacity_of self.old }
         ensures elements { elements_of self.new ≡ elements.now }
-        ensures totals { TotalsRight ops self.new }
+        ensures totals { TotalsRight T.ops self.new }
         ensures capacity { capacity_of self.new ≡ capacity_of self.old }
     {
         self.heads = self.rows.fill(elements);
@@ -52,7 +52,7 @@ impl<E: Copy, T: Measure<E>> Tree<'_, E, T> {
         requires within { end ≤ length (elements_of self.old) }
         requires room { length (elements_of self.old) - (end - first) + length elements.now ≤ capacity_of self.old }
         ensures elements { elements_of self.new ≡ spliced (elements_of self.old) first end elements.now }
-        ensures totals { TotalsRight ops self.old → TotalsRight ops self.new }
+        ensures totals { TotalsRight T.ops self.old → TotalsRight T.ops self.new }
         ensures capacity { capacity_of self.new ≡ capacity_of self.old }
     {
         let common = elements.len().min(end - first);
@@ -66,7 +66,7 @@ impl<E: Copy, T: Measure<E>> Tree<'_, E, T> {
     fn set(&mut self, place: usize, element: E)
         requires { place < length (elements_of self.old) }
         ensures elements { elements_of self.new ≡ set_list (elements_of self.old) place element }
-        ensures totals { TotalsRight ops self.old → TotalsRight ops self.new }
+        ensures totals { TotalsRight T.ops self.old → TotalsRight T.ops self.new }
         ensures capacity { capacity_of self.new ≡ capacity_of self.old }
     {
         let heads = self.heads;
@@ -77,7 +77,7 @@ impl<E: Copy, T: Measure<E>> Tree<'_, E, T> {
     fn set_all(&mut self, place: usize, elements: &[E])
         requires { place + length elements.now ≤ length (elements_of self.old) }
         ensures elements { elements_of self.new ≡ spliced (elements_of self.old) place (place + length elements.now) elements.now }
-        ensures totals { TotalsRight ops self.old → TotalsRight ops self.new }
+        ensures totals { TotalsRight T.ops self.old → TotalsRight T.ops self.new }
         ensures capacity { capacity_of self.new ≡ capacity_of self.old }
     {
         let mut at = place;
@@ -92,7 +92,7 @@ impl<E: Copy, T: Measure<E>> Tree<'_, E, T> {
         requires ordered { first ≤ end }
         requires within { end ≤ length (elements_of self.old) }
         ensures elements { elements_of self.new ≡ spliced (elements_of self.old) first end [] }
-        ensures totals { TotalsRight ops self.old → TotalsRight ops self.new }
+        ensures totals { TotalsRight T.ops self.old → TotalsRight T.ops self.new }
         ensures capacity { capacity_of self.new ≡ capacity_of self.old }
     {
         for _gone in first..end {
@@ -105,7 +105,7 @@ impl<E: Copy, T: Measure<E>> Tree<'_, E, T> {
         requires within { place ≤ length (elements_of self.old) }
         requires room { length (elements_of self.old) + length elements.now ≤ capacity_of self.old }
         ensures elements { elements_of self.new ≡ spliced (elements_of self.old) place place elements.now }
-        ensures totals { TotalsRight ops self.old → TotalsRight ops self.new }
+        ensures totals { TotalsRight T.ops self.old → TotalsRight T.ops self.new }
         ensures capacity { capacity_of self.new ≡ capacity_of self.old }
     {
         let mut at = place;

@@ -18,7 +18,7 @@ pub struct Row<E, T> {
 impl<E: Copy, T: Measure<E>> Row<E, T> {
     /// A row to fill a new table with. A tree asks nothing of the rows that it is lent.
     pub fn new(element: E) -> Self
-        ensures { result ≡ record { element = element; left = None; right = None; height = 0; count = 0; total = ops.unit } }
+        ensures { result ≡ record { element = element; left = None; right = None; height = 0; count = 0; total = T.ops.unit } }
     {
         Row {
             element,

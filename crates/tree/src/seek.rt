@@ -16,7 +16,7 @@ pub(crate) fn seek_below<E: Copy, T: Measure<E>>(
 ) -> u16
     requires { ∥ ((s : Shape E T) × Under rows.now link s × Unit {0}) ∥₁ }
     ensures within { (s : Shape E T) → Under rows.now link s → result ≤ size s }
-    ensures place { (s : Shape E T) → Under rows.now link s → Totalled ops s → result ≡ over (weight_of ops) weight (elements s) }
+    ensures place { (s : Shape E T) → Under rows.now link s → Totalled T.ops s → result ≡ over (weight_of T.ops) weight (elements s) }
 {
     let Some(i) = link else {
         return 0;

@@ -17,7 +17,7 @@ pub(crate) fn set_below<E: Copy, T: Measure<E>>(
     element: E,
 )
     requires { ∥ ((s : Shape E T) × Loose rows.old link s × (place < size s)) ∥₁ }
-    ensures { (s : Shape E T) → Loose rows.old link s → place < size s → Becomes rows.old rows.new link (changed_at ops s place element) }
+    ensures { (s : Shape E T) → Loose rows.old link s → place < size s → Becomes rows.old rows.new link (changed_at T.ops s place element) }
 {
     let Some(i) = link else { unreachable() };
     let row = row_at(rows, i);

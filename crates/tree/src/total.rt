@@ -17,7 +17,7 @@ pub(crate) fn total_below<E: Copy, T: Measure<E>>(
     end: u16,
 ) -> T
     requires { ∥ ((s : Shape E T) × Under rows.now link s × ((first ≤ end) × (end ≤ size s))) ∥₁ }
-    ensures { (s : Shape E T) → Under rows.now link s → Totalled ops s → first ≤ end → end ≤ size s → result ≡ total_of ops (between first end (elements s)) }
+    ensures { (s : Shape E T) → Under rows.now link s → Totalled T.ops s → first ≤ end → end ≤ size s → result ≡ total_of T.ops (between first end (elements s)) }
 {
     let Some(i) = link else {
         return T::unit();

@@ -8,8 +8,8 @@ pub returns : goal.returns
 returns c =
     let base = c.args.base in
     let class = c.args.class in
-    let is : c.implicit-level.result ≡ level_at base c.args.left class c.args.right =
-    c.implicit-level.ensures ∙ ap (I base) c.settled.ensures in
+    let is : c.implicit_level.result ≡ level_at base c.args.left class c.args.right =
+    c.implicit_level.ensures ∙ ap (I base) c.settled.ensures in
     record {
       is = is;
       rules = λ xs ys e f. is ∙ ap₂ (λ l r. level_at base l class r) e f ∙ sym (levels_by_contexts base xs class ys);

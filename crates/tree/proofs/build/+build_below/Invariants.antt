@@ -1,5 +1,5 @@
 use Rattle.std.proofs.Common.{◌-◌}
 use Rattle.tree.proofs.build.+build_below.Given as goal
 
-abbrev pub decreases-build-below : goal.decreases-build-below
-decreases-build-below g l = l.end - l.first
+abbrev pub decreases-build_below : goal.decreases-build_below
+decreases-build_below g l = l.end - l.first

@@ -1,26 +1,26 @@
-use Rattle.std.proofs.Common.{◌≡◌, sym, refl, ap, ◌∙◌, subst}
-use mathlib.Core.Logic.{∥∥₁_elim, ∥∥₁_map}
+use Rattle.std.proofs.Common.{subst}
+use mathlib.Core.Logic.{∥∥₁_map}
 use Rattle.tree.specs.Surgery.{Loose}
 use Rattle.tree.proofs.Removing.{merge_none, merge_split, merge_done, sides_loose}
 use Rattle.tree.proofs.remove.merge.Goals as goal
 
-pub returns-in-default : goal.returns-in-default
-returns-in-default g c = λ a b w. merge_none g.T.Measure.ops a b c.in-default.is w
+pub returns-in_default : goal.returns-in_default
+returns-in_default g c = λ a b w. merge_none g.T.Measure.ops a b c.in_default.is w
 
-pub detach-last-last-requires : goal.detach-last-last-requires
-detach-last-last-requires g c = ∥∥₁_map c.requires (λ w. (w.0, subst (λ x. Loose c.args.rows.now x w.0) c.in-Some.is (sides_loose g.T.Measure.ops w.2)))
+pub detach_last-last-requires : goal.detach_last-last-requires
+detach_last-last-requires g c = ∥∥₁_map c.requires (λ w. (w.0, subst (λ x. Loose c.args.rows.now x w.0) c.in-Some.is (sides_loose g.T.Measure.ops w.2)))
 
 pub rebalance-requires : goal.rebalance-requires
 rebalance-requires g c = ∥∥₁_map c.requires (λ w.
     let k = g.T.Measure.ops in
     let l = subst (λ x. Loose c.args.rows.now x w.0) c.in-Some.is (sides_loose k w.2) in
-    (_, w.1, merge_split k w.0 w.1 c.in-Some.is w.2 c.detach-last-last.auto.rows (c.detach-last-last.ensures.turned w.0 l) (c.detach-last-last.ensures.named w.0 0 c.detach-last-last.result.element l).0))
+    (_, w.1, merge_split k w.0 w.1 c.in-Some.is w.2 c.detach_last-last.auto.rows (c.detach_last-last.ensures.turned w.0 l) (c.detach_last-last.ensures.named w.0 0 c.detach_last-last.result.element l).0))
 
 pub returns : goal.returns
 returns g c = λ a b w.
     let k = g.T.Measure.ops in
     let l = subst (λ x. Loose c.args.rows.now x a) c.in-Some.is (sides_loose k w) in
-    let t = c.detach-last-last.ensures.turned a l in
-    let n = (c.detach-last-last.ensures.named a 0 c.detach-last-last.result.element l).0 in
-    merge_done k c.detach-last-last.result.element a b c.in-Some.is w t n (λ d. (c.detach-last-last.ensures.named a 0 d l).1)
-    (c.rebalance.ensures _ b (merge_split k a b c.in-Some.is w c.detach-last-last.auto.rows t n))
+    let t = c.detach_last-last.ensures.turned a l in
+    let n = (c.detach_last-last.ensures.named a 0 c.detach_last-last.result.element l).0 in
+    merge_done k c.detach_last-last.result.element a b c.in-Some.is w t n (λ d. (c.detach_last-last.ensures.named a 0 d l).1)
+    (c.rebalance.ensures _ b (merge_split k a b c.in-Some.is w c.detach_last-last.auto.rows t n))

@@ -1,4 +1,4 @@
-use Rattle.std.proofs.Common.{◌≡◌, length, take, Ok, Err, sym, refl, ap, ◌∙◌, subst, arith}
+use Rattle.std.proofs.Common.{length, take, Ok, sym, ap, ◌∙◌, arith}
 use mathlib.Core.Logic.{∥∥₁_map}
 use base.Stored.{Coded-set}
 use Rattle.std.proofs.lemmas.Option.{slice_get_past}
@@ -22,8 +22,8 @@ returns-then-place-self g c =
       refusal = sym (le-ltb p (length (elements_of tree)) (omega arith));
     }
 
-pub around-below-requires : goal.around-below-requires
-around-below-requires g c = ∥∥₁_map c.args.self.now.sound (λ w. let n = w.2.counted in (w.0, w.2.under, omega arith))
+pub around_below-requires : goal.around_below-requires
+around_below-requires g c = ∥∥₁_map c.args.self.now.sound (λ w. let n = w.2.counted in (w.0, w.2.under, omega arith))
 
 pub returns : goal.returns
 unfolding shape elements_of TotalsRight
@@ -31,13 +31,13 @@ returns g c =
     let tree = c.args.self.now in
     let k = g.T.Measure.ops in
     let p = c.args.place in
-    let told = c.around-below.result in
+    let told = c.around_below.result in
     let xs = elements_of tree in
     let n = count_is {h = tree.heads} tree.sound in
     let all : (w : Sound (rows_of tree) tree.heads.root tree.heads.free tree.heads.used tree.heads.count) → Around k w.0 p k.unit k.unit told =
     λ w.
     let m = w.2.counted in
-    c.around-below.ensures w.0 w.2.under (omega arith) in
+    c.around_below.ensures w.0 w.2.under (omega arith) in
     let here = found_is {h = tree.heads} (Coded-set g.row.E.coded) tree.sound p told.1 (λ w. (all w).here) in
     record {
       answer = λ t.

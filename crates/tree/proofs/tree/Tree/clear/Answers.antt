@@ -4,8 +4,8 @@ use Rattle.tree.specs.Trees.{shape, elements_of, capacity_of, TotalsRight}
 use Rattle.tree.proofs.Wholes.{whole_empty, whole_shape}
 use Rattle.tree.proofs.tree.Tree.clear.Goals as goal
 
-pub invariant-of-self : goal.invariant-of-self
-invariant-of-self g c = (∣ (leaf, [], whole_empty c.args.self.now.rows.all.now) ∣₁, tt)
+pub invariant_of-self : goal.invariant_of-self
+invariant_of-self g c = record { sound = ∣ (leaf, [], whole_empty c.args.self.now.rows.all.now) ∣₁ }
 
 pub returns : goal.returns
 unfolding shape elements_of capacity_of TotalsRight

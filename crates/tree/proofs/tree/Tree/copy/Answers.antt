@@ -1,10 +1,9 @@
-use Rattle.std.proofs.Common.{◌≡◌, ◌+◌, ◌-◌, ◌≤◌, min, ltb, [], ◌++◌, length, take, drop, Ok, Err, sym, refl, ap, ◌∙◌, subst, arith}
+use Rattle.std.proofs.Common.{◌≡◌, ◌+◌, ◌-◌, min, ltb, length, take, drop, Ok, Err, sym, ap, ◌∙◌, arith}
 use mathlib.Core.List.{is_set}
 use mathlib.Core.Logic.{∥∥₁_elim, ∥∥₁_map}
 use base.Stored.{Coded-set}
-use Rattle.std.proofs.lemmas.List.{drop_all}
 use Rattle.std.proofs.lemmas.Bool.{lt-ltb, le-ltb, cond-true, cond-false}
-use Rattle.tree.specs.Plain.{pasted, copied}
+use Rattle.tree.specs.Plain.{pasted}
 use Rattle.tree.specs.Shapes.{elements}
 use Rattle.tree.specs.Trees.{shape, elements_of}
 use Rattle.tree.proofs.Facts.{count_is}
@@ -23,8 +22,8 @@ returns-then-first-count g c =
       out = copy_none xs c.args.first c.args.out.now (omega arith);
     }
 
-pub copy-below-requires : goal.copy-below-requires
-copy-below-requires g c =
+pub copy_below-requires : goal.copy_below-requires
+copy_below-requires g c =
     let m = c.min.ensures in
     record { under = ∥∥₁_map c.args.self.now.sound (λ w. let n = w.2.counted in (w.0, w.2.under, (omega arith, omega arith))); room = omega arith }
 
@@ -43,7 +42,7 @@ returns g c =
       out = ∥∥₁_elim tree.sound (is_set (Coded-set g.row.E.coded) _ _) (λ w.
           let k = w.2.counted in
           let s = whole_shape w.0 w.2 in
-          c.copy-below.ensures w.0 w.2.under (omega arith) (omega arith)
+          c.copy_below.ensures w.0 w.2.under (omega arith) (omega arith)
           ∙ ap (λ x. pasted out 0 (take (first + c.min.result - first) (drop first (elements x)))) (sym s)
           ∙ copy_fits xs first out (first + c.min.result - first) told (omega arith));
     }

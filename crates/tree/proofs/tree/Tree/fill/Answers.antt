@@ -1,4 +1,4 @@
-use Rattle.std.proofs.Common.{◌≡◌, [], sym, refl, ap, ◌∙◌, subst, arith}
+use Rattle.std.proofs.Common.{[], sym, ap, ◌∙◌, subst, arith}
 use Rattle.tree.specs.Shapes.{elements, Totalled}
 use Rattle.tree.specs.Trees.{shape, elements_of, capacity_of, TotalsRight}
 use Rattle.tree.proofs.Wholes.{whole_shape}
@@ -8,8 +8,8 @@ pub fill-self-requires : goal.fill-self-requires
 unfolding capacity_of
 fill-self-requires g c = let h = c.requires in record { space = omega arith; room = omega arith }
 
-pub invariant-of-self : goal.invariant-of-self
-invariant-of-self g c = let b = c.fill-self.ensures.whole in (∣ (b.0, [], b.1) ∣₁, tt)
+pub invariant_of-self : goal.invariant_of-self
+invariant_of-self g c = let b = c.fill-self.ensures.whole in record { sound = ∣ (b.0, [], b.1) ∣₁ }
 
 pub returns : goal.returns
 unfolding shape elements_of capacity_of TotalsRight

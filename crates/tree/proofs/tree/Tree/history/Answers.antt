@@ -1,4 +1,4 @@
-use Rattle.std.proofs.Common.{◌≡◌, ◌-◌, ◌^◌, ◌≤◌, ltb, [], map, length, sym, refl, ap, ◌∙◌, subst, arith}
+use Rattle.std.proofs.Common.{◌≡◌, ◌-◌, ◌^◌, ◌≤◌, ltb, [], map, length, sym, ap, ◌∙◌, subst}
 use Rattle.std.proofs.lemmas.Bool.{le-ltb, cond-false}
 use Rattle.tree.specs.History.{after_all, answers_all, question_answer}
 use Rattle.tree.specs.Trees.{shape, elements_of, capacity_of, depth_in, RowsSound, least, places_at}
@@ -12,24 +12,24 @@ returns g c =
     let room = capacity_of c.args.self.now in
     let changes = c.args.changes.now in
     let questions = c.args.questions.now in
-    let tree = c.change-all.new.self in
+    let tree = c.change_all.new.self in
     let plain = after_all room [] changes in
     let held : elements_of tree ≡ plain =
-    c.change-all.ensures.elements ∙ ap (λ r. after_all r (elements_of c.clear.new.self) changes) c.clear.ensures.capacity ∙ ap (λ xs. after_all room xs changes) c.clear.ensures.elements in
-    let right = c.change-all.ensures.totals c.clear.ensures.totals in
+    c.change_all.ensures.elements ∙ ap (λ r. after_all r (elements_of c.clear.new.self) changes) c.clear.ensures.capacity ∙ ap (λ xs. after_all room xs changes) c.clear.ensures.elements in
+    let right = c.change_all.ensures.totals c.clear.ensures.totals in
     record {
       answer =
           sym (cond-false (ltb (length c.args.outcomes.now) (length changes)) _ _ (le-ltb (length c.args.outcomes.now) (length changes) c.if-outcomes-changes.false)
           ∙ cond-false (ltb (length c.args.answers.now) (length questions)) _ _ (le-ltb (length c.args.answers.now) (length questions) c.if-answers-questions.false));
       law = record {
-        answered = c.change-all.ensures.answered ∙ ap (λ r. answers_all r (elements_of c.clear.new.self) changes) c.clear.ensures.capacity ∙ ap (λ xs. answers_all room xs changes) c.clear.ensures.elements;
+        answered = c.change_all.ensures.answered ∙ ap (λ r. answers_all r (elements_of c.clear.new.self) changes) c.clear.ensures.capacity ∙ ap (λ xs. answers_all room xs changes) c.clear.ensures.elements;
         held = held;
         rows = tree.sound;
         totals = right;
-        told = c.ask-all.ensures.told right ∙ ap (λ xs. map (question_answer k xs (depth_in tree)) questions) held;
+        told = c.ask_all.ensures.told right ∙ ap (λ xs. map (question_answer k xs (depth_in tree)) questions) held;
         deep = λ p h. subst (λ xs. least (depth_in tree p) ≤ length xs) held (deep_enough {h = tree.heads} tree.sound p);
         sparse = λ d. subst (λ xs. places_at (depth_in tree) d (length xs) ≤ 2 ^ (d - 1)) held (sparse_enough {h = tree.heads} tree.sound d);
       };
-      spare = (c.change-all.ensures.spare, c.ask-all.ensures.spare);
+      spare = (c.change_all.ensures.spare, c.ask_all.ensures.spare);
       refused = (tt, tt, tt);
     }

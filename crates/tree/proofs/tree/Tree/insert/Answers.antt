@@ -28,8 +28,8 @@ insert-self-requires g c =
     let m = c.capacity.ensures in
     record { sound = c.args.self.now.sound; within = omega arith; room = omega arith; space = omega arith }
 
-pub invariant-of-self : goal.invariant-of-self
-invariant-of-self g c = (sound_inserted g.T.Measure.ops {was = c.args.self.now.heads} c.args.self.now.sound c.insert-self.ensures.whole, tt)
+pub invariant_of-self : goal.invariant_of-self
+invariant_of-self g c = record { sound = sound_inserted g.T.Measure.ops {was = c.args.self.now.heads} c.args.self.now.sound c.insert-self.ensures.whole }
 
 pub returns : goal.returns
 unfolding shape elements_of capacity_of TotalsRight

@@ -1,4 +1,4 @@
-use Rattle.std.proofs.Common.{[], take, sym, refl, ap, ◌∙◌, arith}
+use Rattle.std.proofs.Common.{refl, ap, ◌∙◌, arith}
 use Rattle.std.proofs.lemmas.List.{take_all}
 use Rattle.tree.specs.Plain.{spliced, after_insert}
 use Rattle.tree.specs.Trees.{elements_of, capacity_of}
@@ -8,9 +8,9 @@ use Rattle.tree.proofs.tree.Tree.insert_all.Goals as goal
 pub loop-element-init : goal.loop-element-init
 loop-element-init g c = (splice_none (elements_of c.args.self.now) c.args.place, (λ t. t), refl, omega arith)
 
-pub overflow-add-at : goal.overflow-add-at
+pub overflow_add-at : goal.overflow_add-at
 unfolding capacity_of
-overflow-add-at g c = let p = c.requires.within in let q = c.requires.room in let at = c.loop-element.invariant.3 in omega arith
+overflow_add-at g c = let p = c.requires.within in let q = c.requires.room in let at = c.loop-element.invariant.3 in omega arith
 
 pub loop-element-preserved : goal.loop-element-preserved
 loop-element-preserved g c =

@@ -4,8 +4,8 @@ use Rattle.tree.specs.Trees.{shape, elements_of, capacity_of, TotalsRight}
 use Rattle.tree.proofs.Wholes.{whole_empty, whole_shape}
 use Rattle.tree.proofs.tree.Tree.open.Goals as goal
 
-pub invariant-of-result : goal.invariant-of-result
-invariant-of-result g c = (∣ (leaf, [], whole_empty c.args.rows.now) ∣₁, tt)
+pub invariant_of-result : goal.invariant_of-result
+invariant_of-result g c = record { sound = ∣ (leaf, [], whole_empty c.args.rows.now) ∣₁ }
 
 pub returns : goal.returns
 unfolding shape elements_of capacity_of TotalsRight

@@ -1,4 +1,4 @@
-use Rattle.std.proofs.Common.{◌≡◌, ◌≤◌, length, sym, refl, ap, ◌∙◌, subst, arith}
+use Rattle.std.proofs.Common.{◌≡◌, ◌≤◌, length, sym, ap, subst, arith}
 use mathlib.Core.Logic.{∥∥₁_map}
 use base.Stored.{Coded-set}
 use Rattle.std.proofs.lemmas.Option.{slice_get_past}
@@ -20,17 +20,17 @@ returns-then-place-self g c =
       sparse = sparse_enough {h = tree.heads} tree.sound;
     }
 
-pub read-below-requires : goal.read-below-requires
-read-below-requires g c = ∥∥₁_map c.args.self.now.sound (λ w. let n = w.2.counted in (w.0, w.2.under, omega arith))
+pub read_below-requires : goal.read_below-requires
+read_below-requires g c = ∥∥₁_map c.args.self.now.sound (λ w. let n = w.2.counted in (w.0, w.2.under, omega arith))
 
 pub returns : goal.returns
 unfolding shape elements_of depth_in
 returns g c =
     let tree = c.args.self.now in
     let p = c.args.place in
-    let told = c.read-below.result in
-    let element = found_is {h = tree.heads} (Coded-set g.row.E.coded) tree.sound p told.0 (λ w. let n = w.2.counted in (c.read-below.ensures w.0 w.2.under (omega arith)).0) in
-    let deep : depth_in tree p ≡ told.1 = number_is {h = tree.heads} tree.sound (λ s. depth s p) told.1 (λ w. let n = w.2.counted in sym (c.read-below.ensures w.0 w.2.under (omega arith)).1) in
+    let told = c.read_below.result in
+    let element = found_is {h = tree.heads} (Coded-set g.row.E.coded) tree.sound p told.0 (λ w. let n = w.2.counted in (c.read_below.ensures w.0 w.2.under (omega arith)).0) in
+    let deep : depth_in tree p ≡ told.1 = number_is {h = tree.heads} tree.sound (λ s. depth s p) told.1 (λ w. let n = w.2.counted in sym (c.read_below.ensures w.0 w.2.under (omega arith)).1) in
     record {
       answer = read_found (elements_of tree) p told.0 (depth_in tree p) told.1 element deep;
       deep = subst (λ d. least d ≤ length (elements_of tree)) deep (deep_enough {h = tree.heads} tree.sound p);

@@ -13,8 +13,8 @@ returns-then-place-heads g c =
     let a = remove_no_place (elements_of tree) c.args.place (omega arith) in
     record { answer = a.0; elements = a.1; refused = refl; totals = λ h. h; capacity = refl }
 
-pub invariant-of-self : goal.invariant-of-self
-invariant-of-self g c = (sound_removed g.T.Measure.ops {was = c.args.self.now.heads} c.args.self.now.sound c.remove-element.ensures.whole, tt)
+pub invariant_of-self : goal.invariant_of-self
+invariant_of-self g c = record { sound = sound_removed g.T.Measure.ops {was = c.args.self.now.heads} c.args.self.now.sound c.remove-element.ensures.whole }
 
 pub returns : goal.returns
 unfolding shape elements_of capacity_of TotalsRight

@@ -10,8 +10,8 @@ loop-gone-init g c = (splice_none (elements_of c.args.self.now) c.args.first, (�
 pub loop-gone-preserved : goal.loop-gone-preserved
 loop-gone-preserved g c =
     let xs = elements_of c.args.self.now in
-    let n = c.loop-gone.-gone in
-    let low = c.loop-gone.auto.-gone in
+    let n = c.loop-gone._gone in
+    let low = c.loop-gone.auto._gone in
     let within = c.requires.within in (
       c.remove.ensures.elements ∙ ap (λ ys. after_remove ys c.args.first) c.loop-gone.invariant.0 ∙ remove_more xs c.args.first n (omega arith) (omega arith),
       (λ t. c.remove.ensures.totals (c.loop-gone.invariant.1 t)),
@@ -21,7 +21,7 @@ loop-gone-preserved g c =
 pub returns : goal.returns
 returns g c =
     let ordered = c.requires.ordered in
-    let low = c.loop-gone.auto.-gone in
-    let high = c.loop-gone.auto.-gone-end in
-    let all : c.loop-gone.-gone ≡ c.args.end = omega arith in
+    let low = c.loop-gone.auto._gone in
+    let high = c.loop-gone.auto._gone-end in
+    let all : c.loop-gone._gone ≡ c.args.end = omega arith in
     record { elements = c.loop-gone.invariant.0 ∙ ap (λ n. spliced (elements_of c.args.self.now) c.args.first n []) all; totals = c.loop-gone.invariant.1; capacity = c.loop-gone.invariant.2 }

@@ -1,11 +1,11 @@
-use Rattle.std.proofs.Common.{length, sym, refl, ap, ◌∙◌, arith}
+use Rattle.std.proofs.Common.{◌∙◌, arith}
 use Rattle.tree.specs.Trees.{elements_of, capacity_of}
 use Rattle.tree.proofs.Plains.{replace_fits}
 use Rattle.tree.proofs.Splices.{splice_all}
 use Rattle.tree.proofs.tree.Tree.replace.Goals as goal
 
-pub overflow-sub-capacity : goal.overflow-sub-capacity
-overflow-sub-capacity g c = let n = c.len-count.ensures.room in let m = c.capacity.ensures in omega arith
+pub overflow_sub-capacity : goal.overflow_sub-capacity
+overflow_sub-capacity g c = let n = c.len-count.ensures.room in let m = c.capacity.ensures in omega arith
 
 pub fill-requires : goal.fill-requires
 fill-requires g c =

@@ -1,12 +1,12 @@
-use Rattle.std.proofs.Common.{◌≡◌, sym, refl, ap, ◌∙◌, arith}
+use Rattle.std.proofs.Common.{arith}
 use base.Stored.{Coded-set}
 use Rattle.tree.specs.Trees.{shape, elements_of, capacity_of, TotalsRight}
 use Rattle.tree.proofs.Facts.{count_is, count_fits, sound_set, elements_set, totals_set}
 use Rattle.tree.proofs.tree.Tree.set.Goals as goal
 
-pub overflow-cast-place : goal.overflow-cast-place
+pub overflow_cast-place : goal.overflow_cast-place
 unfolding shape elements_of
-overflow-cast-place g c =
+overflow_cast-place g c =
     let tree = c.args.self.now in
     let n = count_is {h = tree.heads} tree.sound in
     let m = count_fits {h = tree.heads} tree.sound in
@@ -21,8 +21,8 @@ set-requires g c =
     let h = c.requires in
     record { sound = tree.sound; within = omega arith }
 
-pub invariant-of-self : goal.invariant-of-self
-invariant-of-self g c = (sound_set g.T.Measure.ops {h = c.args.self.now.heads} c.args.self.now.sound c.set.ensures.whole, tt)
+pub invariant_of-self : goal.invariant_of-self
+invariant_of-self g c = record { sound = sound_set g.T.Measure.ops {h = c.args.self.now.heads} c.args.self.now.sound c.set.ensures.whole }
 
 pub returns : goal.returns
 unfolding shape elements_of capacity_of TotalsRight

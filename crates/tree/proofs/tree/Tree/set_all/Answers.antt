@@ -1,7 +1,7 @@
-use Rattle.std.proofs.Common.{◌≡◌, ◌+◌, [], length, take, set, sym, refl, ap, ◌∙◌, arith}
+use Rattle.std.proofs.Common.{◌≡◌, ◌+◌, [], length, take, set, refl, ap, ◌∙◌, arith}
 use Rattle.std.proofs.lemmas.List.{take_all}
 use Rattle.tree.specs.Plain.{spliced}
-use Rattle.tree.specs.Trees.{shape, elements_of, capacity_of}
+use Rattle.tree.specs.Trees.{shape, elements_of}
 use Rattle.tree.proofs.Facts.{count_is, count_fits}
 use Rattle.tree.proofs.Setting.{set_more, length-written}
 use Rattle.tree.proofs.Splices.{splice_none}
@@ -21,9 +21,9 @@ set-requires g c =
     let l = ap length c.loop-element.invariant.0 ∙ length-written xs c.args.elements.now c.args.place c.loop-element.element-index h (omega arith) in
     omega arith
 
-pub overflow-add-at : goal.overflow-add-at
+pub overflow_add-at : goal.overflow_add-at
 unfolding shape elements_of
-overflow-add-at g c =
+overflow_add-at g c =
     let tree = c.args.self.now in
     let n = count_is {h = tree.heads} tree.sound in
     let m = count_fits {h = tree.heads} tree.sound in

@@ -1,4 +1,4 @@
-use Rattle.std.proofs.Common.{◌≡◌, ◌+◌, [], length, sym, refl, ap, ◌∙◌, arith}
+use Rattle.std.proofs.Common.{◌≡◌, ◌+◌, [], length, ap, ◌∙◌, arith}
 use Rattle.std.specs.List.{between}
 use Rattle.std.proofs.lemmas.List.Edits.{length-between}
 use Rattle.tree.specs.Plain.{spliced}
@@ -6,27 +6,27 @@ use Rattle.tree.specs.Trees.{elements_of}
 use Rattle.tree.proofs.Splices.{splice_splice, splice_on, halves, length-splice}
 use Rattle.tree.proofs.tree.Tree.splice.Goals as goal
 
-pub set-all-requires : goal.set-all-requires
-set-all-requires g c =
+pub set_all-requires : goal.set_all-requires
+set_all-requires g c =
     let m = c.min-common.ensures in
     let n = length-between c.args.elements.now 0 c.min-common.result (omega arith) in
     let o = c.requires.ordered in
     let w = c.requires.within in
     omega arith
 
-pub remove-all-requires : goal.remove-all-requires
-remove-all-requires g c =
+pub remove_all-requires : goal.remove_all-requires
+remove_all-requires g c =
     let m = c.min-common.ensures in
     let xs = elements_of c.args.self.now in
     let ys = c.args.elements.now in
     let n = length-between ys 0 c.min-common.result (omega arith) in
     let o = c.requires.ordered in
     let w = c.requires.within in
-    let l = ap length c.set-all.ensures.elements ∙ length-splice xs (between 0 c.min-common.result ys) c.args.first _ (omega arith) (omega arith) in
+    let l = ap length c.set_all.ensures.elements ∙ length-splice xs (between 0 c.min-common.result ys) c.args.first _ (omega arith) (omega arith) in
     record { ordered = omega arith; within = omega arith }
 
-pub insert-all-requires : goal.insert-all-requires
-insert-all-requires g c =
+pub insert_all-requires : goal.insert_all-requires
+insert_all-requires g c =
     let m = c.min-common.ensures in
     let common = c.min-common.result in
     let xs = elements_of c.args.self.now in
@@ -36,10 +36,10 @@ insert-all-requires g c =
     let o = c.requires.ordered in
     let w = c.requires.within in
     let room = c.requires.room in
-    let l = ap length c.set-all.ensures.elements ∙ length-splice xs (between 0 common ys) c.args.first _ (omega arith) (omega arith) in
-    let k = ap length c.remove-all.ensures.elements ∙ length-splice (elements_of c.set-all.new.self) [] (c.args.first + common) c.args.end (omega arith) (omega arith) in
-    let p = c.set-all.ensures.capacity in
-    let q = c.remove-all.ensures.capacity in
+    let l = ap length c.set_all.ensures.elements ∙ length-splice xs (between 0 common ys) c.args.first _ (omega arith) (omega arith) in
+    let k = ap length c.remove_all.ensures.elements ∙ length-splice (elements_of c.set_all.new.self) [] (c.args.first + common) c.args.end (omega arith) (omega arith) in
+    let p = c.set_all.ensures.capacity in
+    let q = c.remove_all.ensures.capacity in
     record { within = omega arith; room = omega arith }
 
 pub returns : goal.returns
@@ -56,13 +56,13 @@ returns g c =
     let n : length front ≡ common = let e = length-between ys 0 common (omega arith) in omega arith in
     let o = c.requires.ordered in
     let w = c.requires.within in
-    let written = elements_of c.set-all.new.self in
-    let is : written ≡ spliced xs first next front = c.set-all.ensures.elements ∙ ap (λ k. spliced xs first (first + k) front) n in
+    let written = elements_of c.set_all.new.self in
+    let is : written ≡ spliced xs first next front = c.set_all.ensures.elements ∙ ap (λ k. spliced xs first (first + k) front) n in
     let l = ap length is ∙ length-splice xs front first next (omega arith) (omega arith) in
     record {
       elements =
-          c.insert-all.ensures.elements ∙ ap (λ l. spliced l next next back) c.remove-all.ensures.elements ∙ splice_splice written back next end (omega arith)
+          c.insert_all.ensures.elements ∙ ap (λ l. spliced l next next back) c.remove_all.ensures.elements ∙ splice_splice written back next end (omega arith)
           ∙ ap (λ l. spliced l next end back) is ∙ splice_on xs front back first next end (omega arith) (omega arith) w ∙ ap (spliced xs first end) (halves ys common);
-      totals = λ t. c.insert-all.ensures.totals (c.remove-all.ensures.totals (c.set-all.ensures.totals t));
-      capacity = c.insert-all.ensures.capacity ∙ c.remove-all.ensures.capacity ∙ c.set-all.ensures.capacity;
+      totals = λ t. c.insert_all.ensures.totals (c.remove_all.ensures.totals (c.set_all.ensures.totals t));
+      capacity = c.insert_all.ensures.capacity ∙ c.remove_all.ensures.capacity ∙ c.set_all.ensures.capacity;
     }

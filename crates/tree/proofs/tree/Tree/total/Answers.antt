@@ -1,4 +1,4 @@
-use Rattle.std.proofs.Common.{◌≡◌, Ok, Err, sym, refl, ap, ◌∙◌, subst, arith}
+use Rattle.std.proofs.Common.{Ok, sym, ap, ◌∙◌, subst, arith}
 use mathlib.Core.Logic.{∥∥₁_elim, ∥∥₁_map}
 use base.Stored.{Coded-set}
 use Rattle.std.specs.List.{between}
@@ -25,8 +25,8 @@ returns-then-end-self g c =
     let f = fits_not_within (elements_of tree) c.args.first c.args.end (omega arith) in
     record { answer = λ _. sym (cond-false (fits (elements_of tree) c.args.first c.args.end) _ _ f); refusal = sym f }
 
-pub total-below-requires : goal.total-below-requires
-total-below-requires g c = ∥∥₁_map c.args.self.now.sound (λ w. let n = w.2.counted in (w.0, w.2.under, (omega arith, omega arith)))
+pub total_below-requires : goal.total_below-requires
+total_below-requires g c = ∥∥₁_map c.args.self.now.sound (λ w. let n = w.2.counted in (w.0, w.2.under, (omega arith, omega arith)))
 
 pub returns : goal.returns
 unfolding shape elements_of TotalsRight
@@ -42,7 +42,7 @@ returns g c =
           ap Ok (∥∥₁_elim tree.sound (Coded-set g.row.T.coded _ _) (λ w.
           let m = w.2.counted in
           let s = whole_shape w.0 w.2 in
-          c.total-below.ensures w.0 w.2.under (subst (Totalled k) s t) (omega arith) (omega arith) ∙ ap (λ x. total_of k (between first end (elements x))) (sym s)))
+          c.total_below.ensures w.0 w.2.under (subst (Totalled k) s t) (omega arith) (omega arith) ∙ ap (λ x. total_of k (between first end (elements x))) (sym s)))
           ∙ sym (cond-true (fits (elements_of tree) first end) (Ok (total_of k (between first end (elements_of tree)))) _ f);
       refusal = sym f;
     }
