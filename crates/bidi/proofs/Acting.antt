@@ -1,14 +1,12 @@
 -- A total acts as its items do, one by one.
-use Rattle.std.proofs.Common.{◌≡◌, ℕ, cond, List, [], ◌∷◌, Option, refl, ap, ◌∙◌}
+use Rattle.std.proofs.Common.{◌≡◌, ℕ, List, [], ◌∷◌, refl, ap, ◌∙◌}
 use Rattle.tree.specs.Measures.{Lawful, total_of, unit, of, join}
 use Rattle.rules.specs.declared.classes.Class.{Class}
 use Rattle.rules.specs.declared.classes.Class.TheVariants.{L, R, AL, EN, ES, ET, AN, CS, NSM, S, WS, ON}
-use Rattle.rules.specs.declared.classes.Strong.{Strong}
 use Rattle.rules.specs.declared.contexts.Left.{Left}
 use Rattle.rules.specs.declared.contexts.Right.{Right}
 use Rattle.rules.specs.Contexts.{after, after_all, before, before_all}
 use Rattle.rules.specs.Rules.{P2}
-use Rattle.bidi.specs.declared.contexts.Contexts.{Contexts}
 use Rattle.bidi.specs.declared.item.Item.{Item}
 use Rattle.bidi.specs.Actions.{left_at, right_at, act_left, act_right, strong_at}
 use Rattle.bidi.specs.Items.{classes}

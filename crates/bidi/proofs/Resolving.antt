@@ -1,5 +1,5 @@
 -- Both passes of resolving, step by step.
-use Rattle.std.proofs.Common.{◌≡◌, ℕ, zero, suc, ◌+◌, ◌<◌, ◌≤◌, ◌≢◌, List, [], ◌∷◌, ◌++◌, map, length, get_or, take, drop, set, sym, refl, ap, ◌∙◌, ap₂, arith}
+use Rattle.std.proofs.Common.{◌≡◌, ℕ, zero, suc, ◌+◌, ◌<◌, ◌≤◌, ◌≢◌, List, [], ◌∷◌, ◌++◌, length, get_or, take, drop, set, sym, refl, ap, ◌∙◌, ap₂, arith}
 use Rattle.std.proofs.lemmas.List.{drop_more, drop-set, take_more, take_more_set, take_all, drop_all, take-append-drop, map-append, length-map, length-take, get_or-set_other}
 use Rattle.tree.specs.Measures.{total_of}
 use Rattle.rules.specs.declared.classes.Class.{Class}
@@ -8,7 +8,7 @@ use Rattle.rules.specs.declared.contexts.Left.{Left}
 use Rattle.rules.specs.declared.contexts.Right.{Right}
 use Rattle.rules.specs.Contexts.{start, after, after_all, end}
 use Rattle.rules.specs.Rules.{levels}
-use Rattle.rules.specs.Claims.{left_of, right_of as right_context, level_between, IsLevel}
+use Rattle.rules.specs.Claims.{left_of, right_of as right_context, IsLevel}
 use Rattle.rules.proofs.ByContexts.{levels_are_low_lem}
 use Rattle.bidi.specs.declared.item.Item.{Item}
 use Rattle.bidi.specs.Actions.{act_right, right_at}

@@ -3,13 +3,11 @@ use Rattle.std.specs.Prelude.{◌≡◌, ℕ, ◌+◌, ◌≤◌, Bool, true, fa
 use Rattle.std.proofs.Math.Path.{subst⁻¹}
 use Rattle.std.proofs.Common.{arith, eqb→eq}
 use Rattle.tree.specs.Measures.{Lawful, Laws, unit, of, join}
-use Rattle.rules.specs.declared.classes.Class.{Class}
 use Rattle.rules.specs.declared.contexts.Left.{Left}
 use Rattle.rules.specs.declared.contexts.Right.{Right}
 use Rattle.rules.specs.Finite.{all, alike, at as at_value, every_left, at_left, every_right, at_right, fst, snd, same, classes, strongs, sides, kinds, nexts, bools, firsts}
 use Rattle.bidi.specs.declared.columns.Columns.{Columns}
 use Rattle.bidi.specs.declared.contexts.Contexts.{Contexts}
-use Rattle.bidi.specs.declared.item.Item.{Item}
 use Rattle.bidi.specs.Actions.{left_at, right_at, act_left, act_right}
 use Rattle.bidi.specs.Joins.{left_of, right_of, strong_of, left_join, right_join, strong_join}
 use Rattle.bidi.specs.Sums.{held, column_ops, context_ops}

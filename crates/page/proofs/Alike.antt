@@ -1,5 +1,5 @@
 -- Entries with the same numbers are the same, and so are pages over the same tree.
-use Rattle.std.proofs.Common.{◌≡◌, ℕ, ◌≤◌, min, max, Bool, true, false, cond, leb, length, Ok, Err, sym, refl, ap, ◌∙◌, arith, le-leb}
+use Rattle.std.proofs.Common.{◌≡◌, ◌≤◌, min, max, true, cond, length, Ok, Err, sym, refl, ap, ◌∙◌, arith, le-leb}
 use mathlib.Core.HLevel.{is_prop→PathP}
 use mathlib.Core.Logic.{∥∥₁_prop}
 use native.Mathlib.Bridge.{le_prop}

@@ -1,5 +1,4 @@
 -- The totals that a page's tree stores are right.
-use Rattle.std.proofs.Common.{◌≡◌}
 use mathlib.Core.Logic.{∥∥₁_elim}
 use base.Stored.{Coded, Coded-set, coded_ℕ, coded×, coded_via}
 use Rattle.tree.specs.Shapes.{Shape, leaf, node, Totalled}

@@ -11,7 +11,7 @@ returns c =
     let all : length items - 0 ≡ length items = omega arith in
     let fits : leb (length items) (length levels) ≡ true = le-leb (length items) (length levels) (omega arith) in
     let there : ltb c.args.place (length items) ≡ true = lt-ltb c.args.place (length items) (omega arith) in
-    c.column-there.ensures
+    c.column_there.ensures
     ∙ ap (λ n. column_in (take n levels) (widths items) c.args.place) all
     ∙ sym (cond-true _ _ _ there)
     ∙ sym (cond-true _ _ _ fits)

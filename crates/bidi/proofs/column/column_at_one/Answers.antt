@@ -10,8 +10,8 @@ returns c =
     let levels = c.args.levels.now in
     let p : ℕ = c.args.p in
     let here : get_or levels p 0 ≡ 1 = omega arith in
-    let start = c.stretch-start-a in
-    let stop = c.stretch-end-b in
+    let start = c.stretch_start-a in
+    let stop = c.stretch_end-b in
     let s : Stretch levels 1 p start.result stop.result =
     around levels 1 p start.result stop.result (omega arith) (omega arith)
     start.ensures.within start.ensures.high start.ensures.left stop.ensures.from stop.ensures.within stop.ensures.high stop.ensures.right in

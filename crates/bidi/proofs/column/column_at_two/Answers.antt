@@ -10,10 +10,10 @@ returns c =
     let levels = c.args.levels.now in
     let p : ℕ = c.args.p in
     let here : get_or levels p 0 ≡ 2 = omega arith in
-    let start = c.stretch-start-a in
-    let stop = c.stretch-end-b in
-    let from = c.stretch-start-c in
-    let to = c.stretch-end-d in
+    let start = c.stretch_start-a in
+    let stop = c.stretch_end-b in
+    let from = c.stretch_start-c in
+    let to = c.stretch_end-d in
     let s : Stretch levels 1 p start.result stop.result =
     around levels 1 p start.result stop.result (omega arith) (omega arith)
     start.ensures.within start.ensures.high start.ensures.left stop.ensures.from stop.ensures.within stop.ensures.high stop.ensures.right in

@@ -11,4 +11,4 @@ returns-in-0 c =
     let p : ℕ = c.args.p in
     let here : get_or levels p 0 ≡ 0 = omega arith in
     let low : leb (get_or levels p 0) 2 ≡ true = le-leb (get_or levels p 0) 2 (omega arith) in
-    ap Ok (c.width-of.ensures ∙ ap held (sym ((columns_by_stretches levels (widths c.args.items.now) p (omega arith)).0 here))) ∙ sym (cond-true _ _ _ low)
+    ap Ok (c.width_of.ensures ∙ ap held (sym ((columns_by_stretches levels (widths c.args.items.now) p (omega arith)).0 here))) ∙ sym (cond-true _ _ _ low)

@@ -1,4 +1,4 @@
-use Rattle.std.proofs.Common.{◌≡◌, ℕ, max, drop}
+use Rattle.std.proofs.Common.{◌≡◌, max, drop}
 use Rattle.rules.specs.Order.{highest}
 use Rattle.bidi.proofs.order.highest_of.Given as goal
 

@@ -16,7 +16,7 @@ returns c =
       answer = sym (cond-true _ _ _ fits);
       list =
           ap₂ ◌++◌
-          (c.turn-all.ensures ∙ ap (reordered (at levels) (highest levels)) (c.count-up.ensures ∙ ap (places 0) whole))
+          (c.turn_all.ensures ∙ ap (reordered (at levels) (highest levels)) (c.count_up.ensures ∙ ap (places 0) whole))
           (ap (λ n. drop n list) all)
           ∙ sym (cond-true _ _ _ fits);
     }

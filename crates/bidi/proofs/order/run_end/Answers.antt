@@ -1,12 +1,12 @@
-use Rattle.std.proofs.Common.{◌≡◌, ◌+◌, ◌<◌, ◌≤◌, length, get_or, drop, sym, ap, ◌∙◌, arith}
+use Rattle.std.proofs.Common.{◌<◌, ◌≤◌, get_or, arith}
 use Rattle.std.proofs.lemmas.Bool.{le-leb, lt-leb}
 use Rattle.std.proofs.lemmas.List.Sums.{prefix_len-drop_yes, prefix_len-drop_no, prefix_len-drop_all}
 use Rattle.rules.specs.Order.{at}
 use Rattle.bidi.specs.Ordering.{at_least}
 use Rattle.bidi.proofs.order.run_end.Goals as goal
 
-pub returns-then-level-of-k : goal.returns-then-level-of-k
-returns-then-level-of-k c =
+pub returns-then-level_of-k : goal.returns-then-level_of-k
+returns-then-level_of-k c =
     let levels = c.args.levels.now in
     let list = c.args.list.now in
     let low : at levels (get_or list c.loop-j.j 0) < c.args.k = omega arith in

@@ -1,4 +1,4 @@
-use Rattle.std.proofs.Common.{◌≡◌, ℕ}
+use Rattle.std.proofs.Common.{◌≡◌}
 use Rattle.rules.specs.Order.{highest, reordered, at}
 use Rattle.bidi.proofs.order.turn_all.Given as goal
 

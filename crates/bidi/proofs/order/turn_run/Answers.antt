@@ -6,8 +6,8 @@ use Rattle.bidi.proofs.order.turn_run.Goals as goal
 pub returns : goal.returns
 returns c =
     record {
-      from = c.run-end-end.ensures.from;
-      within = c.run-end-end.ensures.within;
-      run = c.run-end-end.ensures.run;
+      from = c.run_end-end.ensures.from;
+      within = c.run_end-end.ensures.within;
+      run = c.run_end-end.ensures.run;
       list = search (rules, overwrites, drop-drop);
     }

@@ -15,10 +15,10 @@ loop-i-preserved c =
     let i : ℕ = c.loop-i.i in
     let d = c.index-items-i.result in
     let e = get_or items (i - 1) d in
-    let right_is : c.join-right-right.result ≡ right_join (right_of e.class) c.loop-i.right =
-    c.join-right-right.ensures ∙ ap (λ n. right_join n c.loop-i.right) c.right-number.ensures in
-    let strong-is : c.join-strong-strong.result ≡ strong_join (strong_of e.class) c.loop-i.strong =
-    c.join-strong-strong.ensures ∙ ap (λ n. strong_join n c.loop-i.strong) c.strong-number.ensures in
+    let right_is : c.join_right-right.result ≡ right_join (right_of e.class) c.loop-i.right =
+    c.join_right-right.ensures ∙ ap (λ n. right_join n c.loop-i.right) c.right_number.ensures in
+    let strong-is : c.join_strong-strong.result ≡ strong_join (strong_of e.class) c.loop-i.strong =
+    c.join_strong-strong.ensures ∙ ap (λ n. strong_join n c.loop-i.strong) c.strong_number.ensures in
     let g = gathered_more items c.loop-i.bytes i (i - 1) c.loop-i.right c.loop-i.strong d (omega arith) (omega arith) (omega arith) c.loop-i.invariant in
     record { on_right = right_is ∙ g.on_right; on_strong = strong-is ∙ g.on_strong; written = g.written }
 

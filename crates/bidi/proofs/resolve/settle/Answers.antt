@@ -1,8 +1,7 @@
-use Rattle.std.proofs.Common.{◌≡◌, ℕ, ◌<◌, length, get_or, sym, refl, ap, ◌∙◌, arith, rules}
+use Rattle.std.proofs.Common.{ℕ, ◌<◌, length, get_or, refl, ap, ◌∙◌, arith}
 use Rattle.std.proofs.lemmas.List.{length-set}
-use Rattle.rules.specs.Contexts.{after}
 use Rattle.bidi.specs.Actions.{act_right, right_at}
-use Rattle.bidi.proofs.Resolving.{Settled, length_behind, right_here, level_here, settled_more, settled_all}
+use Rattle.bidi.proofs.Resolving.{length_behind, right_here, level_here, settled_more, settled_all}
 use Rattle.bidi.proofs.resolve.settle.Goals as goal
 
 pub loop-i-init : goal.loop-i-init
@@ -29,8 +28,8 @@ loop-i-preserved c =
     let h : i < length items = omega arith in
     let k : i < length bytes = omega (arith, c.loop-i.invariant.0) in
     let s = c.loop-i.invariant.1 in
-    let right_is = c.before-part.ensures ∙ ap (act_right (right_at (get_or bytes i 0))) c.end-end.ensures ∙ right_here base items i bytes left d h k s in
-    let told = level_here base items i bytes left d h k s c.level.result c.before-part.result right_is c.level.ensures.rules in
+    let right_is = c.before_part.ensures ∙ ap (act_right (right_at (get_or bytes i 0))) c.end-end.ensures ∙ right_here base items i bytes left d h k s in
+    let told = level_here base items i bytes left d h k s c.level.result c.before_part.result right_is c.level.ensures.rules in
     let more = settled_more base items i bytes left d h k s c.level.result told in (
       length-set bytes i c.level.result ∙ c.loop-i.invariant.0,
       record { on_left = c.after-left.ensures ∙ more.on_left; front = more.front; rest = more.rest },

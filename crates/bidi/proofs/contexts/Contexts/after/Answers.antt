@@ -5,6 +5,6 @@ use Rattle.bidi.proofs.contexts.Contexts.after.Goals as goal
 
 pub returns : goal.returns
 returns c = record {
-  is = c.after-part.ensures;
-  items = λ items e. c.after-part.ensures ∙ ap (λ t. left_behind t c.args.left) e ∙ left_acts items c.args.left;
+  is = c.after_part.ensures;
+  items = λ items e. c.after_part.ensures ∙ ap (λ t. left_behind t c.args.left) e ∙ left_acts items c.args.left;
 }

@@ -5,6 +5,6 @@ use Rattle.bidi.proofs.contexts.Contexts.before.Goals as goal
 
 pub returns : goal.returns
 returns c = record {
-  is = c.before-part.ensures;
-  items = λ items e. c.before-part.ensures ∙ ap (λ t. right_before t c.args.right) e ∙ right_acts items c.args.right;
+  is = c.before_part.ensures;
+  items = λ items e. c.before_part.ensures ∙ ap (λ t. right_before t c.args.right) e ∙ right_acts items c.args.right;
 }
