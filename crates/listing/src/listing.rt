@@ -15,10 +15,9 @@ use bidi::order::order;
 use bidi::resolve::resolve;
 use rules::{Direction, Side};
 use std::alloc::{AllocError, Global};
-use std::fmt;
 
 /// Adds the column of each item, each behind a space.
-fn add_columns(text: &mut String, levels: &[u8], items: &[Item]) -> fmt::Result
+fn add_columns(text: &mut String, levels: &[u8], items: &[Item]) -> Result<(), AllocError>
     requires { (length levels.now ≡ length items.now) × (All (λ l. l ≤ 2) levels.now) }
     ensures { OnOk result (string_bytes text.new ≡ string_bytes text.old ++ spaced (columns_from levels.now items.now)) }
 {
@@ -59,7 +58,7 @@ fn add_all(
     levels: &[u8],
     places: &[usize],
     items: &[Item],
-) -> fmt::Result
+) -> Result<(), AllocError>
     requires { (length levels.now ≡ length items.now) × ((All (λ l. l ≤ 2) levels.now) × (places.now ≡ L2 levels.now)) }
     ensures { OnOk result (string_bytes text.new ≡ string_bytes text.old ++ listed_from base levels.now items.now) }
 {

@@ -1,17 +1,15 @@
 -- What an edit changes is what its edges and the items after it tell.
-use Rattle.std.proofs.Common.{◌≡◌, ℕ, ◌+◌, ◌-◌, ◌<◌, ◌≤◌, ◌⊎◌, List, [], ◌∷◌, ◌++◌, length, get_or, take, drop, Option, sym, refl, ap, ◌∙◌, subst, ap₂, inl, inr, ⊎_elim, arith}
+use Rattle.std.proofs.Common.{◌≡◌, ℕ, ◌+◌, ◌-◌, ◌<◌, ◌≤◌, List, ◌∷◌, ◌++◌, length, get_or, take, drop, Option, sym, ap, ◌∙◌, subst, ap₂, inl, inr, ⊎_elim, arith}
 use Rattle.std.proofs.lemmas.List.{append_assoc, length-append, length-take-le, length-drop, take_at, drop_at, take-append-drop, drop_more}
 use Rattle.paragraph.specs.declared.span.Span.{Span}
-use Rattle.rules.specs.Contexts.{after, before, level_at, start, end}
+use Rattle.rules.specs.Contexts.{level_at, start, end}
 use Rattle.rules.specs.declared.classes.Class.{Class}
 use Rattle.rules.specs.declared.classes.Side.{Side}
-use Rattle.rules.specs.declared.contexts.Left.{Left}
-use Rattle.rules.specs.declared.contexts.Right.{Right}
 use Rattle.paragraph.specs.declared.span.Edges.{Edges}
 use Rattle.paragraph.specs.Steps.{none, left, right, level_in}
 use Rattle.tree.specs.Plain.{spliced}
-use Rattle.paragraph.specs.Spans.{Given, KeptBefore, KeptBehind, Changed, SpanOf}
-use Rattle.paragraph.specs.Edges.{edges, Other, OtherBefore, OtherBehind, ChangedBy}
+use Rattle.paragraph.specs.Spans.{Changed, SpanOf}
+use Rattle.paragraph.specs.Edges.{edges, ChangedBy}
 use Rattle.paragraph.proofs.SpanLaws.{same_places}
 use Rattle.paragraph.proofs.Walks.{in_front, in_rest}
 

@@ -1,16 +1,15 @@
 -- Whether one place changed, from its item and the contexts beside it.
-use Rattle.std.proofs.Common.{◌≡◌, ℕ, ◌+◌, ◌-◌, ◌<◌, ◌≤◌, Bool, true, not, eqb, ◌⊎◌, List, length, get_or, take, drop, Decides, sym, refl, ap, ◌∙◌, inl, inr, ⊎_elim, arith}
+use Rattle.std.proofs.Common.{◌≡◌, ℕ, ◌+◌, ◌-◌, ◌<◌, ◌≤◌, true, not, eqb, List, length, get_or, take, drop, Decides, sym, refl, ap, ◌∙◌, inl, inr, ⊎_elim, arith}
 use Rattle.std.proofs.lemmas.Bool.Decides.{Decides-eqb, Decides-not, Decides-like}
 use Rattle.std.proofs.lemmas.List.{length-take-le, length-drop, get_or-take, get_or-drop, take-take, drop-drop, drop-take}
-use Rattle.rules.specs.Contexts.{after, before, level_at, start, end}
+use Rattle.rules.specs.Contexts.{level_at, start, end}
 use Rattle.rules.specs.declared.classes.Class.{Class}
 use Rattle.rules.specs.declared.classes.Side.{Side}
 use Rattle.rules.specs.declared.contexts.Left.{Left}
 use Rattle.rules.specs.declared.contexts.Right.{Right}
 use Rattle.paragraph.specs.declared.span.Edges.{Edges}
 use Rattle.paragraph.specs.Steps.{none, left, right, level_in}
-use Rattle.paragraph.specs.Spans.{Given}
-use Rattle.paragraph.specs.Edges.{Other, Moved, OtherBefore, OtherBehind, ChangedBy}
+use Rattle.paragraph.specs.Edges.{ChangedBy}
 
 module _ (e f : Edges) (xs : List Class) (place count i : ℕ) where
   abbrev pub At : Type 0

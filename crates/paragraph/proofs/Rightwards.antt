@@ -1,19 +1,17 @@
 -- The walk to the right of an edit, with what it keeps.
-use Rattle.std.proofs.Common.{◌≡◌, ℕ, ◌+◌, ◌-◌, ◌<◌, ◌≤◌, ◌⊎◌, List, length, get_or, take, drop, Some, None, Option, sym, refl, ap, ◌∙◌, subst, ap₂, inl, inr, ⊎_elim, arith}
-use Rattle.std.proofs.lemmas.List.{drop_all}
+use Rattle.std.proofs.Common.{◌≡◌, ℕ, ◌+◌, ◌-◌, ◌<◌, ◌≤◌, ◌⊎◌, List, length, get_or, take, drop, None, Option, sym, ap, ◌∙◌, subst, inl, inr, ⊎_elim, arith}
 use Rattle.std.proofs.lemmas.Bool.{cases_order}
 use Rattle.paragraph.specs.declared.span.Span.{Span}
-use Rattle.rules.specs.Contexts.{after, before, level_at, start, end}
+use Rattle.rules.specs.Contexts.{after, level_at}
 use Rattle.rules.specs.declared.classes.Class.{Class}
 use Rattle.rules.specs.declared.classes.Side.{Side}
 use Rattle.rules.specs.declared.contexts.Left.{Left}
 use Rattle.rules.specs.declared.contexts.Right.{Right}
-use Rattle.paragraph.specs.declared.span.Edges.{Edges}
 use Rattle.paragraph.specs.Steps.{none, left, right, level_in}
 use Rattle.paragraph.specs.Spans.{SpanOf, hull, point}
 use Rattle.paragraph.specs.Edges.{Other, Moved}
-use Rattle.paragraph.proofs.SpanLaws.{one_more, none_more, looked, same_places}
-use Rattle.paragraph.proofs.Walks.{left_more, right_more, none_below, none_above}
+use Rattle.paragraph.proofs.SpanLaws.{one_more, none_more, looked}
+use Rattle.paragraph.proofs.Walks.{left_more, none_above}
 
 -- to the right, from left contexts l and l' before the items: what was seen up to place j
 pub record Rightward (b : Side) (l l' : Left) (r : Right) (xs : List Class) (from j : ℕ) (old new : Left) (found : Option Span) : Type 0 where

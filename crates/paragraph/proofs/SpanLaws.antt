@@ -1,5 +1,5 @@
 -- Laws of spans, for any places.
-use Rattle.std.proofs.Common.{◌≡◌, ℕ, ◌+◌, ◌-◌, ◌<◌, ◌≤◌, Bool, true, false, cond, ltb, ◌⊎◌, Some, None, Option, sym, refl, ap, ◌∙◌, subst, ap₂, inl, inr, ⊎_elim, arith, ltb-false, ltb-true}
+use Rattle.std.proofs.Common.{◌≡◌, ℕ, ◌+◌, ◌-◌, ◌<◌, ◌≤◌, Bool, true, false, cond, ltb, ◌⊎◌, Some, None, Option, sym, refl, subst, ap₂, inl, inr, ⊎_elim, arith, ltb-false, ltb-true}
 use Rattle.std.proofs.lemmas.Bool.{cases_lt}
 use Rattle.paragraph.specs.declared.span.Span.{Span}
 use Rattle.paragraph.specs.Spans.{SpanOf, FirstOf, LastOf, Given, earlier, later, hull, point}

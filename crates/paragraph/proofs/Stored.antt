@@ -1,5 +1,5 @@
 -- The totals that a paragraph's tree stores are right, so what it tells of a stretch is what the items of the stretch give.
-use Rattle.std.proofs.Common.{◌≡◌, ℕ, ◌≤◌, true, cond, leb, List, [], ◌∷◌, map, length, Ok, Err, sym, refl, ap, ◌∙◌, arith}
+use Rattle.std.proofs.Common.{◌≡◌, ℕ, ◌≤◌, leb, List, [], ◌∷◌, length, Ok, Err, refl, ap}
 use mathlib.Core.Logic.{∥∥₁_elim}
 use base.Stored.{Coded, Coded-set, coded_ℕ, coded×, coded_via}
 use Rattle.std.specs.List.{between}
@@ -11,7 +11,6 @@ use Rattle.tree.specs.Trees.{shape, TotalsRight}
 use Rattle.tree.specs.declared.pair.Pair.{Pair}
 use Rattle.tree.specs.declared.tree.Tree.{Tree}
 use Rattle.tree.proofs.Wholes.{totalled_prop}
-use Rattle.bidi.specs.Sums.{column_ops, context_ops}
 use Rattle.bidi.specs.declared.columns.Columns.{Columns}
 use Rattle.bidi.specs.declared.contexts.Contexts.{Contexts}
 use Rattle.bidi.specs.declared.item.Item.{Item}

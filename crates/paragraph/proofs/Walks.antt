@@ -1,15 +1,14 @@
 -- Contexts along a list, and where they agree.
-use Rattle.std.proofs.Common.{◌≡◌, ℕ, zero, suc, ◌+◌, ◌-◌, ◌<◌, ◌≤◌, ◌⊎◌, List, [], ◌∷◌, ◌++◌, length, get_or, take, drop, sym, refl, ap, ◌∙◌, subst, ap₂, inl, inr, ⊎_elim, suc-add, arith}
+use Rattle.std.proofs.Common.{◌≡◌, ℕ, ◌+◌, ◌-◌, ◌<◌, ◌≤◌, List, [], ◌∷◌, ◌++◌, length, get_or, take, drop, sym, refl, ap, ◌∙◌, ap₂, ⊎_elim, arith}
 use Rattle.std.proofs.lemmas.List.{take-append-drop, drop-drop, take_more, drop_more, take-take, drop-take, get_or-take, get_or-drop, length-take-le, drop-append-le}
 use Rattle.std.proofs.lemmas.Bool.{cases_lt}
-use Rattle.rules.specs.Contexts.{after, before, level_at, start, end}
+use Rattle.rules.specs.Contexts.{after, before, level_at}
 use Rattle.rules.specs.declared.classes.Class.{Class}
 use Rattle.rules.specs.declared.classes.Side.{Side}
 use Rattle.rules.specs.declared.contexts.Left.{Left}
 use Rattle.rules.specs.declared.contexts.Right.{Right}
-use Rattle.paragraph.specs.declared.span.Edges.{Edges}
 use Rattle.paragraph.specs.Steps.{none, left, right, level_in}
-use Rattle.paragraph.specs.Edges.{edges, Other, OtherBefore, OtherBehind, ChangedBy}
+use Rattle.paragraph.specs.Edges.{Other}
 
 left_append : (l : Left) (xs ys : List Class) → left l (xs ++ ys) ≡ left (left l xs) ys
 left_append l [] ys = refl

@@ -1,5 +1,5 @@
 -- An edit as its edges see it: what is needed of the items before it.
-use Rattle.std.specs.Prelude.{◌≡◌, ℕ, ◌+◌, ◌-◌, ◌<◌, ◌≤◌, ◌⊎◌, List, length, take, drop, ◌≢◌, slice_index_or}
+use Rattle.std.specs.Prelude.{ℕ, ◌+◌, ◌-◌, ◌<◌, ◌≤◌, ◌⊎◌, List, length, take, drop, ◌≢◌, slice_index_or}
 use Rattle.paragraph.specs.Steps.{none, left, right, level_in}
 use Rattle.paragraph.specs.Spans.{Given}
 use Rattle.rules.specs.Contexts.{start, end}

@@ -1,9 +1,7 @@
 -- What is told of a paragraph: its items, its base direction, the levels and columns that the rules give them.
 use Rattle.std.specs.Prelude.{ℕ, List}
 use Rattle.tree.specs.Trees.{elements_of, capacity_of}
-use Rattle.rules.specs.Order.{column_of}
 use Rattle.rules.specs.declared.classes.Side.{Side}
-use Rattle.bidi.specs.Items.{widths}
 use Rattle.bidi.specs.Resolving.{base_of, levels_of}
 use Rattle.bidi.specs.declared.item.Item.{Item}
 use Rattle.paragraph.specs.Plain.{Plain}

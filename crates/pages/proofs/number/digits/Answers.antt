@@ -16,11 +16,11 @@ returns-then-b-lt48 c = sym (sym c.loop-i.invariant.0 ∙ low _ _ _ c.loop-i-tes
 pub returns-then-b-gt57 : goal.returns-then-b-gt57
 returns-then-b-gt57 c = sym (sym c.loop-i.invariant.0 ∙ high _ _ _ c.loop-i-test.true c.if-b-lt48.false c.if-b-gt57.true)
 
-pub overflow-mul-n : goal.overflow-mul-n
-overflow-mul-n c = let h = room _ _ c.loop-i.invariant.1 (omega arith) in search rules
+pub overflow_mul-n : goal.overflow_mul-n
+overflow_mul-n c = let h = room _ _ c.loop-i.invariant.1 (omega arith) in search rules
 
-pub overflow-add-n : goal.overflow-add-n
-overflow-add-n c = let h = room _ _ c.loop-i.invariant.1 (omega arith) in search rules
+pub overflow_add-n : goal.overflow_add-n
+overflow_add-n c = let h = room _ _ c.loop-i.invariant.1 (omega arith) in search rules
 
 pub returns : goal.returns
 returns c = sym (at_drop_all (read_on c.loop-i.n) c.args.bytes.now c.loop-i.i (omega arith)) ∙ c.loop-i.invariant.0

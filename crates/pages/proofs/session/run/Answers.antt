@@ -2,23 +2,23 @@ use Rattle.std.proofs.Common.{◌≡◌, ◌+◌, ◌<◌, cond, ◌++◌, lengt
 use borrow.Author.Tests.{eqb-false}
 use Rattle.pages.proofs.Sofar.{one_more, finished}
 use Rattle.pages.proofs.session.run.Goals as goal
-use Rattle.pages.proofs.session.run.Goals.{then-is-err, else-is-err}
+use Rattle.pages.proofs.session.run.Goals.{then-is_err, else-is_err}
 
 pub loop-rest-preserved : goal.loop-rest-preserved
 loop-rest-preserved c =
-    let some : 0 < length c.loop-rest.rest.now = omega (arith, eqb-false (length c.loop-rest.rest.now) 0 (sym c.is-empty.ensures ∙ c.loop-rest-test.true)) in
-    let tested = c.is-err.ensures.value in
-    let counts : c.if-is-err.refused ≡ c.loop-rest.refused + cond (is_err c.step-outcome.result) 1 0 =
-    elim c.if-is-err.branch [
-      | then-is-err w ↦ w.refused-is ∙ ap (λ t. c.loop-rest.refused + cond t 1 0) (sym w.if-is-err.true ∙ tested)
-      | else-is-err w ↦ w.refused-is ∙ sym (add-zero _) ∙ ap (λ t. c.loop-rest.refused + cond t 1 0) (sym w.if-is-err.false ∙ tested)
+    let some : 0 < length c.loop-rest.rest.now = omega (arith, eqb-false (length c.loop-rest.rest.now) 0 (sym c.is_empty.ensures ∙ c.loop-rest-test.true)) in
+    let tested = c.is_err.ensures.value in
+    let counts : c.if-is_err.refused ≡ c.loop-rest.refused + cond (is_err c.step-outcome.result) 1 0 =
+    elim c.if-is_err.branch [
+      | then-is_err w ↦ w.refused-is ∙ ap (λ t. c.loop-rest.refused + cond t 1 0) (sym w.if-is_err.true ∙ tested)
+      | else-is_err w ↦ w.refused-is ∙ sym (add-zero _) ∙ ap (λ t. c.loop-rest.refused + cond t 1 0) (sym w.if-is_err.false ∙ tested)
     ] in
     one_more c.loop-rest.invariant c.step-outcome.result _ _ _ _ _ _ _
-    (c.next-line.ensures.lines some) (omega (arith, c.next-line.ensures.less some))
+    (c.next_line.ensures.lines some) (omega (arith, c.next_line.ensures.less some))
     c.step-outcome.ensures.answer c.step-outcome.ensures.entries c.step-outcome.ensures.room
-    counts c.in-ok-report.ensures (c.in-ok-push-str.ensures.bytes ∙ ap (λ b. string_bytes c.loop-rest.printed ++ b) c.as-str.ensures.value)
+    counts c.in_ok-report.ensures (c.in_ok-push_str.ensures.bytes ∙ ap (λ b. string_bytes c.loop-rest.printed ++ b) c.as_str.ensures.value)
 
 pub returns : goal.returns
 returns c =
-    let none : length c.loop-rest.rest.now ≡ 0 = eqb-true (length c.loop-rest.rest.now) 0 (sym c.is-empty.ensures ∙ c.loop-rest-test.false) in
-    c.in-ok-push-str-2.ensures.bytes ∙ finished c.loop-rest.invariant _ none (c.as-str-2.ensures.value ∙ c.in-ok-report-2.ensures)
+    let none : length c.loop-rest.rest.now ≡ 0 = eqb-true (length c.loop-rest.rest.now) 0 (sym c.is_empty.ensures ∙ c.loop-rest-test.false) in
+    c.in_ok-push_str-2.ensures.bytes ∙ finished c.loop-rest.invariant _ none (c.as_str-2.ensures.value ∙ c.in_ok-report-2.ensures)

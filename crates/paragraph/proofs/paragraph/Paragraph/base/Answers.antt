@@ -1,4 +1,4 @@
-use Rattle.std.proofs.Common.{◌≡◌, ap, ◌∙◌}
+use Rattle.std.proofs.Common.{ap, ◌∙◌}
 use Rattle.tree.specs.Measures.{total_of}
 use Rattle.tree.proofs.Stretches.{between_whole}
 use Rattle.bidi.specs.Sums.{context_ops}

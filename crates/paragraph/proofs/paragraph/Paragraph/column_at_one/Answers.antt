@@ -1,4 +1,4 @@
-use Rattle.std.proofs.Common.{◌≡◌, arith}
+use Rattle.std.proofs.Common.{arith}
 use Rattle.rules.proofs.ByStretches.{columns_by_stretches}
 use Rattle.bidi.specs.Items.{widths}
 use Rattle.paragraph.specs.Paragraphs.{items_of, levels_in}
@@ -13,10 +13,10 @@ returns c =
     let n = length-levels p.direction (items_of p) in
     let here = c.requires.level in
     let inside = c.requires.within in
-    let start = c.stretch-start-a in
-    let stop = c.stretch-end-b in
+    let start = c.stretch_start-a in
+    let stop = c.stretch_end-b in
     let s = stretch_around p 1 place start.result stop.result inside (omega arith) start.ensures.within start.ensures.high start.ensures.left stop.ensures.from stop.ensures.within stop.ensures.high stop.ensures.right in
     let sum = (columns_by_stretches (levels_in p) (widths (items_of p)) place (omega arith)).1 start.result stop.result here s in
-    let u = c.width-of.ensures.sum in
-    let v = c.width-of-2.ensures.sum in
+    let u = c.width_of.ensures.sum in
+    let v = c.width_of-2.ensures.sum in
     omega arith

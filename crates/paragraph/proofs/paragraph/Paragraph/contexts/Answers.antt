@@ -1,4 +1,4 @@
-use Rattle.std.proofs.Common.{◌≡◌, Ok, ap, ◌∙◌}
+use Rattle.std.proofs.Common.{◌≡◌, ap, ◌∙◌}
 use Rattle.std.specs.List.{between}
 use Rattle.tree.specs.Measures.{total_of}
 use Rattle.bidi.specs.Sums.{column_ops, context_ops}

@@ -1,4 +1,4 @@
-use Rattle.std.proofs.Common.{◌≡◌, ◌+◌, ◌-◌, ◌≤◌, length, Err, sym, refl, ap, ◌∙◌, subst, arith}
+use Rattle.std.proofs.Common.{◌+◌, ◌≤◌, length, Err, sym, refl, ap, ◌∙◌, subst, arith}
 use mathlib.Core.Logic.{∥∥₁_map}
 use borrow.Rule.Reborrow.{re_v}
 use Rattle.std.proofs.lemmas.Result.{err_from_is_err_and}
@@ -26,33 +26,33 @@ returns-then-removed-count c =
     let a = edit_no_removed (room_of p) (items_of p) c.args.place c.args.removed c.args.items.now (omega arith) (omega arith) in
     record { told = told_refused (room_of p) (plain_of p) c.args.place c.args.removed c.args.items.now _ a.0; answer = a.0; items = a.1; direction = refl; room = refl; refused = same_paragraph _ _ refl refl; outcome = tt }
 
-pub returns-in-err-narrow-all : goal.returns-in-err-narrow-all
-returns-in-err-narrow-all c =
+pub returns-in_err-narrow_all : goal.returns-in_err-narrow_all
+returns-in_err-narrow_all c =
     let p = c.args.self.now in
     let n = c.len-count.ensures.count in
-    let r = err_from_is_err_and c.from-residual.result c.from-residual.ensures.1 in
-    let a = edit_wide (room_of p) (items_of p) c.args.place c.args.removed c.args.items.now (omega arith) (omega arith) _ c.in-err-narrow-all.ensures in
+    let r = err_from_is_err_and c.from_residual.result c.from_residual.ensures.1 in
+    let a = edit_wide (room_of p) (items_of p) c.args.place c.args.removed c.args.items.now (omega arith) (omega arith) _ c.in_err-narrow_all.ensures in
     rw (r.1, r.2) (record { told = told_refused (room_of p) (plain_of p) c.args.place c.args.removed c.args.items.now _ a.0; answer = a.0; items = a.1; direction = refl; room = refl; refused = same_paragraph _ _ refl refl; outcome = tt })
 
-pub invariant-of-self-2 : goal.invariant-of-self-2
-invariant-of-self-2 c = (
-  ∥∥₁_map c.args.self.now.totals c.replace.ensures.totals,
-  (subst (λ xs. length xs ≤ 4096) (sym c.replace.ensures.elements) (few_after _ _ _ _ _ c.args.self.now.few), tt),
-)
+pub invariant_of-self-2 : goal.invariant_of-self-2
+invariant_of-self-2 c = record {
+  totals = ∥∥₁_map c.args.self.now.totals c.replace.ensures.totals;
+  few = subst (λ xs. length xs ≤ 4096) (sym c.replace.ensures.elements) (few_after _ _ _ _ _ c.args.self.now.few);
+}
 
-pub returns-in-err-replace : goal.returns-in-err-replace
-returns-in-err-replace c =
+pub returns-in_err-replace : goal.returns-in_err-replace
+returns-in_err-replace c =
     let p = c.args.self.now in
     let items = items_of p in
     let new = c.args.items.now in
     let place = c.args.place in
     let removed = c.args.removed in
-    let h = c.in-err-replace.ensures in
+    let h = c.in_err-replace.ensures in
     let n = c.len-count.ensures.count in
-    let r = err_from_is_err_and c.from-residual-in-err-replace.result c.from-residual-in-err-replace.ensures.1 in
+    let r = err_from_is_err_and c.from_residual-in_err-replace.result c.from_residual-in_err-replace.ensures.1 in
     let full = replace_refused (room_of p) items new place (place + removed) (omega arith) (omega arith) _ h.answer in
     let many = full.1 in
-    let a = edit_full (room_of p) items place removed new (omega arith) (omega arith) c.in-ok-narrow-all.ensures (omega arith) in
+    let a = edit_full (room_of p) items place removed new (omega arith) (omega arith) c.in_ok-narrow_all.ensures (omega arith) in
     let refused = ap (λ m. Err (plain m)) (sym full.0) ∙ a.0 in
     rw (r.1, r.2) (record {
       told = told_refused (room_of p) (plain_of p) place removed new _ refused;
@@ -71,7 +71,7 @@ outcome-requires c =
     let place = c.args.place in
     let removed = c.args.removed in
     let n = c.len-count.ensures.count in
-    let h = c.in-ok-replace.ensures in
+    let h = c.in_ok-replace.ensures in
     let done = replace_accepted (room_of c.args.self.now) items new place (place + removed) (omega arith) (omega arith) h.answer in
     let l = ap length (h.elements ∙ done.1) ∙ length-spliced items new place (place + removed) (omega arith) (omega arith) in
     omega arith
@@ -84,10 +84,10 @@ returns c =
     let place = c.args.place in
     let removed = c.args.removed in
     let n = c.len-count.ensures.count in
-    let h = c.in-ok-replace.ensures in
+    let h = c.in_ok-replace.ensures in
     let done = replace_accepted (room_of p) items new place (place + removed) (omega arith) (omega arith) h.answer in
     let fits = done.0 in
-    let a = edit_done (room_of p) items place removed new (omega arith) (omega arith) c.in-ok-narrow-all.ensures (omega arith) in
+    let a = edit_done (room_of p) items place removed new (omega arith) (omega arith) c.in_ok-narrow_all.ensures (omega arith) in
     let change = h.elements ∙ done.1 in
     let long = ap length change ∙ length-spliced items new place (place + removed) (omega arith) (omega arith) in
     let span = span_of_change p.direction p.direction items new _ place removed (omega arith) change c.edges-was.result _

@@ -9,12 +9,12 @@ use Rattle.paragraph.proofs.Stretched.{length-classes}
 use Rattle.paragraph.proofs.paragraph.Paragraph.first_changed.Goals as goal
 
 pub loop-i-preserved : goal.loop-i-preserved
-loop-i-preserved c = below_more _ _ c.loop-i.invariant (not_from_Decides c.changed_at.result c.changed_at.ensures c.if-changed-at.false)
+loop-i-preserved c = below_more _ _ c.loop-i.invariant (not_from_Decides c.changed_at.result c.changed_at.ensures c.if-changed_at.false)
 
-pub returns-then-changed-at : goal.returns-then-changed-at
-returns-then-changed-at c =
+pub returns-then-changed_at : goal.returns-then-changed_at
+returns-then-changed_at c =
     first_at (ChangedBy c.args.was c.args.is (classes (items_of c.args.self.now)) c.args.place c.args.count) c.loop-i.i
-    (c.changed_at.ensures.0 c.if-changed-at.true) c.loop-i.invariant
+    (c.changed_at.ensures.0 c.if-changed_at.true) c.loop-i.invariant
 
 pub returns : goal.returns
 returns c = λ k p.

@@ -20,13 +20,13 @@ pub loop-j-preserved : goal.loop-j-preserved
 loop-j-preserved c = (
   let a = c.loop-j.invariant.0 in omega arith,
   down (ChangedBy c.args.was c.args.is (classes (items_of c.args.self.now)) c.args.place c.args.count) c.loop-j.j
-      (not_from_Decides c.changed_at.result c.changed_at.ensures c.if-changed-at.false) c.loop-j.invariant.1,
+      (not_from_Decides c.changed_at.result c.changed_at.ensures c.if-changed_at.false) c.loop-j.invariant.1,
 )
 
-pub returns-then-changed-at : goal.returns-then-changed-at
-returns-then-changed-at c =
+pub returns-then-changed_at : goal.returns-then-changed_at
+returns-then-changed_at c =
     last_at (ChangedBy c.args.was c.args.is (classes (items_of c.args.self.now)) c.args.place c.args.count) c.loop-j.j
-    (c.changed_at.ensures.0 c.if-changed-at.true) c.loop-j.invariant.1
+    (c.changed_at.ensures.0 c.if-changed_at.true) c.loop-j.invariant.1
 
 pub returns : goal.returns
 returns c = λ k p. none k (c.loop-j.invariant.1 k p)

@@ -1,4 +1,4 @@
-use Rattle.std.proofs.Common.{◌≡◌, ltb, length, Ok, Err, sym, ap, ◌∙◌, arith}
+use Rattle.std.proofs.Common.{ltb, length, Ok, sym, ◌∙◌, arith}
 use Rattle.std.proofs.lemmas.Bool.{lt-ltb, le-ltb, cond-true, cond-false}
 use Rattle.tree.specs.Trees.{depth_in}
 use Rattle.rules.specs.Order.{at}
@@ -7,8 +7,8 @@ use Rattle.paragraph.proofs.Levels.{length-levels}
 use Rattle.paragraph.proofs.Stretched.{read_told, read_past}
 use Rattle.paragraph.proofs.paragraph.Paragraph.level.Goals as goal
 
-pub level-at-requires : goal.level-at-requires
-level-at-requires c =
+pub level_at-requires : goal.level_at-requires
+level_at-requires c =
     let p = c.args.self.now in
     let told = c.in-Ok.told in
     record { base = c.base.ensures; within = (read_told (items_of p) c.args.place (depth_in p.tree.now c.args.place) told.0 told.1 c.in-Ok.ensures.answer).0 }

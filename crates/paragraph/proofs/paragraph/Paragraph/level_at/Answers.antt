@@ -1,4 +1,4 @@
-use Rattle.std.proofs.Common.{◌≡◌, get_or, sym, ap, ◌∙◌, arith}
+use Rattle.std.proofs.Common.{get_or, sym, ap, ◌∙◌, arith}
 use Rattle.rules.specs.Contexts.{level_at}
 use Rattle.rules.specs.Rules.{levels}
 use Rattle.bidi.specs.Items.{classes}

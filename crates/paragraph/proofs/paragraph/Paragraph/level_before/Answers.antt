@@ -6,12 +6,12 @@ use Rattle.paragraph.proofs.Decides.{level_front}
 use Rattle.paragraph.proofs.Stretched.{classes_between}
 use Rattle.paragraph.proofs.paragraph.Paragraph.level_before.Goals as goal
 
-pub overflow-add-i : goal.overflow-add-i
-overflow-add-i c = let o = c.requires.order in let w = c.requires.within in let few = c.args.self.now.few in omega arith
+pub overflow_add-i : goal.overflow_add-i
+overflow_add-i c = let o = c.requires.order in let w = c.requires.within in let few = c.args.self.now.few in omega arith
 
 pub returns : goal.returns
 returns c =
     let items = items_of c.args.self.now in
     let e = c.args.edges in
     level_front (classes items) e.base c.args.place c.args.i e.right _ _ _ _ c.requires.order
-    c.left-at.ensures c.class-at.ensures (c.right-before-right.ensures ∙ ap (right e.right) (classes_between items (c.args.i + 1) c.args.place)) c.level.ensures.is
+    c.left_at.ensures c.class_at.ensures (c.right_before-right.ensures ∙ ap (right e.right) (classes_between items (c.args.i + 1) c.args.place)) c.level.ensures.is

@@ -6,12 +6,12 @@ use Rattle.paragraph.proofs.Decides.{level_rest}
 use Rattle.paragraph.proofs.Stretched.{classes_between}
 use Rattle.paragraph.proofs.paragraph.Paragraph.level_behind.Goals as goal
 
-pub overflow-add-i : goal.overflow-add-i
-overflow-add-i c = let w = c.requires.within in let few = c.args.self.now.few in omega arith
+pub overflow_add-i : goal.overflow_add-i
+overflow_add-i c = let w = c.requires.within in let few = c.args.self.now.few in omega arith
 
 pub returns : goal.returns
 returns c =
     let items = items_of c.args.self.now in
     let e = c.args.edges in
     level_rest (classes items) e.base c.args.from c.args.i e.left _ _ _ _ c.requires.order
-    (c.left-after-left.ensures ∙ ap (left e.left) (classes_between items c.args.from c.args.i)) c.class-at.ensures c.right_at.ensures c.level.ensures.is
+    (c.left_after-left.ensures ∙ ap (left e.left) (classes_between items c.args.from c.args.i)) c.class_at.ensures c.right_at.ensures c.level.ensures.is

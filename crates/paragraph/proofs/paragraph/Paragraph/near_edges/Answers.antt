@@ -1,5 +1,5 @@
-use Rattle.std.proofs.Common.{◌≡◌, ◌+◌, length, take, sym, ap, ◌∙◌, arith}
-use Rattle.rules.specs.Contexts.{after, before, start, end}
+use Rattle.std.proofs.Common.{◌≡◌, ◌+◌, take, sym, ap, ◌∙◌, arith}
+use Rattle.rules.specs.Contexts.{after, before, start}
 use Rattle.bidi.specs.Items.{classes}
 use Rattle.paragraph.specs.Paragraphs.{items_of}
 use Rattle.paragraph.specs.Steps.{left}

@@ -38,7 +38,7 @@ returns c =
     let few = p.few in
     let m = c.len-count.result - 0 in
     let same : m ≡ length items = omega arith in
-    let copied : take m c.copy-items.new.items ≡ items = ap (λ k. take k c.copy-items.new.items) same ∙ c.copy-items.ensures in
+    let copied : take m c.copy_items.new.items ≡ items = ap (λ k. take k c.copy_items.new.items) same ∙ c.copy_items.ensures in
     let levels : c.resolve.new.levels ≡ overwritten (length ls) ls scratch =
     c.resolve.ensures.levels ∙ ap (λ xs. resolve_buffer p.direction xs scratch) copied ∙ resolved p.direction items ls scratch refl n (omega arith) in
     let written : take m c.resolve.new.levels ≡ ls = ap (take m) levels ∙ take_at ls _ m (omega arith) in

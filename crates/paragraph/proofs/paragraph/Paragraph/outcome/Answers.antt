@@ -1,8 +1,8 @@
-use Rattle.std.proofs.Common.{◌≡◌, ◌+◌, sym, ap, ◌∙◌, subst}
+use Rattle.std.proofs.Common.{◌+◌, sym, ap, ◌∙◌, subst}
 use Rattle.rules.specs.Rules.{base_level}
 use Rattle.bidi.specs.Items.{classes}
 use Rattle.paragraph.specs.Edges.{ChangedBy, edges}
-use Rattle.paragraph.specs.Paragraphs.{items_of, base_in}
+use Rattle.paragraph.specs.Paragraphs.{items_of}
 use Rattle.paragraph.specs.Spans.{SpanOf}
 use Rattle.paragraph.proofs.paragraph.Paragraph.outcome.Goals as goal
 use Rattle.paragraph.proofs.paragraph.Paragraph.outcome.Goals.{then-eq, else-eq}
@@ -16,8 +16,8 @@ returns c =
     let was = c.args.was in
     let told : SpanOf (ChangedBy was c.edges-is.result cs place count) c.if-eq.span =
     elim c.if-eq.branch [
-      | then-eq w ↦ subst (SpanOf (ChangedBy was c.edges-is.result cs place count)) (sym w.span-is) w.span-by-walk-span.ensures
-      | else-eq w ↦ subst (SpanOf (ChangedBy was c.edges-is.result cs place count)) (sym w.span-is) w.span-by-scan-span.ensures
+      | then-eq w ↦ subst (SpanOf (ChangedBy was c.edges-is.result cs place count)) (sym w.span-is) w.span_by_walk-span.ensures
+      | else-eq w ↦ subst (SpanOf (ChangedBy was c.edges-is.result cs place count)) (sym w.span-is) w.span_by_scan-span.ensures
     ] in
     record {
       count = c.len.ensures.count;

@@ -1,5 +1,4 @@
 use Rattle.std.proofs.Common.{drop, ap, ◌∙◌}
-use Rattle.rules.specs.Contexts.{end}
 use Rattle.bidi.specs.Items.{classes}
 use Rattle.paragraph.specs.Paragraphs.{items_of}
 use Rattle.paragraph.specs.Steps.{right}

@@ -18,10 +18,10 @@ returns c =
     let place = c.args.place in
     let n = length-levels p.direction (items_of p) in
     let all = c.len.ensures.count in
-    let level = c.level-at-level.result in
-    let start = c.run-start-first in
-    let stop = c.run-end-end in
-    let here : get_or ls place 0 ≡ level = sym c.level-at-level.ensures in
+    let level = c.level_at-level.result in
+    let start = c.run_start-first in
+    let stop = c.run_end-end in
+    let here : get_or ls place 0 ≡ level = sym c.level_at-level.ensures in
     let w = stop.ensures.from in
     let v = stop.ensures.within in
     record {

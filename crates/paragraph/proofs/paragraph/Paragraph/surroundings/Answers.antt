@@ -1,4 +1,4 @@
-use Rattle.std.proofs.Common.{◌≡◌, ◌+◌, length, take, drop, sym, ap, ◌∙◌, true≢false}
+use Rattle.std.proofs.Common.{◌+◌, length, take, drop, sym, ap, ◌∙◌, true≢false}
 use Rattle.std.proofs.lemmas.Bool.{lt-ltb}
 use Rattle.bidi.specs.Sums.{column_ops, context_ops}
 use Rattle.paragraph.specs.Paragraphs.{items_of}

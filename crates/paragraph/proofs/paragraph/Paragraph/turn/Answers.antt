@@ -1,4 +1,4 @@
-use Rattle.std.proofs.Common.{◌≡◌, [], sym, refl, ap, ◌∙◌, arith}
+use Rattle.std.proofs.Common.{[], refl, ap, ◌∙◌, arith}
 use Rattle.bidi.specs.Items.{classes}
 use Rattle.paragraph.specs.Edges.{edges}
 use Rattle.paragraph.specs.Paragraphs.{items_of, plain_of}

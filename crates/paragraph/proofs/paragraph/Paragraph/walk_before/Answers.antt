@@ -1,12 +1,11 @@
-use Rattle.std.proofs.Common.{◌≡◌, ℕ, ◌+◌, ◌-◌, ◌<◌, ◌≤◌, List, length, take, sym, ap, ◌∙◌, arith, rules}
+use Rattle.std.proofs.Common.{◌≡◌, ℕ, ◌+◌, ◌-◌, ◌≤◌, length, take, sym, ap, ◌∙◌, arith, rules}
 use Rattle.std.proofs.lemmas.List.{length-take-le, get_or-take, take-take}
 use Rattle.rules.specs.Contexts.{start}
-use Rattle.rules.specs.declared.classes.Class.{Class}
 use Rattle.bidi.specs.Items.{classes}
 use Rattle.paragraph.specs.Paragraphs.{items_of}
 use Rattle.paragraph.specs.Steps.{left, none}
 use Rattle.paragraph.specs.declared.paragraph.Paragraph.{Paragraph}
-use Rattle.paragraph.proofs.Leftwards.{Leftward, leftward_none, leftward_other, leftward_same, leftward_front, leftward_agree}
+use Rattle.paragraph.proofs.Leftwards.{leftward_none, leftward_other, leftward_same, leftward_front, leftward_agree}
 use Rattle.paragraph.proofs.Stretched.{length-classes}
 use Rattle.paragraph.proofs.paragraph.Paragraph.walk_before.Goals as goal
 use Rattle.paragraph.proofs.paragraph.Paragraph.walk_before.Goals.{then-level, else-level}
@@ -25,8 +24,8 @@ surroundings-at-requires c =
     let w = c.loop-i.invariant.within in
     omega arith
 
-pub overflow-add-i : goal.overflow-add-i
-overflow-add-i c =
+pub overflow_add-i : goal.overflow_add-i
+overflow_add-i c =
     let f = front c.args.self.now c.args.place c.requires in
     let h = c.requires in
     let few = c.args.self.now.few in
@@ -48,10 +47,10 @@ loop-i-preserved c =
     elim c.if-level.branch [
       | then-level v ↦
           leftward_other b (start b) c.args.was c.args.is (take place cs) i (i - 1) c.loop-i.old c.loop-i.new c.loop-i.found w e
-          _ item _ context _ _ c.level.ensures.is c.level-in-loop-i.ensures.is _ _ c.before-old.ensures c.before-new.ensures _ (v.found_is ∙ v.hull-found.ensures) v.if-level.true
+          _ item _ context _ _ c.level.ensures.is c.level-in-loop-i.ensures.is _ _ c.before-old.ensures c.before-new.ensures _ (v.found-is ∙ v.hull-found.ensures) v.if-level.true
       | else-level v ↦
           leftward_same b (start b) c.args.was c.args.is (take place cs) i (i - 1) c.loop-i.old c.loop-i.new c.loop-i.found w e
-          _ item _ context _ _ c.level.ensures.is c.level-in-loop-i.ensures.is _ _ c.before-old.ensures c.before-new.ensures _ v.found_is v.if-level.false
+          _ item _ context _ _ c.level.ensures.is c.level-in-loop-i.ensures.is _ _ c.before-old.ensures c.before-new.ensures _ v.found-is v.if-level.false
     ]
 
 pub returns-after-loop-i : goal.returns-after-loop-i

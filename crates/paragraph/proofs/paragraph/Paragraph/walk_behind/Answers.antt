@@ -1,10 +1,16 @@
+use denote.Enum.Bare.{same_true}
+use Rattle.std.proofs.lemmas.Bool.{and_parts, not-false}
+use Rattle.rules.specs.contracts.classes.Strong.{the_type as strong_type}
+use Rattle.rules.specs.contracts.classes.Side.{the_type as side_type}
+use Rattle.rules.specs.contracts.contexts.Kind.{the_type as kind_type}
+use Rattle.rules.specs.declared.contexts.Left.{Left}
 use Rattle.std.proofs.Common.{◌≡◌, ℕ, ◌+◌, ◌-◌, ◌<◌, ◌≤◌, length, get_or, drop, sym, ap, ◌∙◌, arith, rules}
 use Rattle.std.proofs.lemmas.List.{length-drop, get_or-drop, drop-drop}
 use Rattle.rules.specs.Contexts.{end}
 use Rattle.bidi.specs.Items.{classes}
 use Rattle.paragraph.specs.Paragraphs.{items_of}
 use Rattle.paragraph.specs.Steps.{right, none}
-use Rattle.paragraph.proofs.Rightwards.{Rightward, rightward_none, rightward_other, rightward_same, rightward_end, rightward_agree}
+use Rattle.paragraph.proofs.Rightwards.{rightward_none, rightward_other, rightward_same, rightward_end, rightward_agree}
 use Rattle.paragraph.proofs.Stretched.{length-classes}
 use Rattle.paragraph.proofs.paragraph.Paragraph.walk_behind.Goals as goal
 use Rattle.paragraph.proofs.paragraph.Paragraph.walk_behind.Goals.{then-level, else-level}
@@ -12,8 +18,8 @@ use Rattle.paragraph.proofs.paragraph.Paragraph.walk_behind.Goals.{then-level, e
 pub loop-j-init : goal.loop-j-init
 loop-j-init c = rightward_none c.args.base c.args.was c.args.is (end c.args.base) (drop c.args.from (classes (items_of c.args.self.now))) c.args.from
 
-pub overflow-add-j-in-loop-j : goal.overflow-add-j-in-loop-j
-overflow-add-j-in-loop-j c =
+pub overflow_add-j-in-loop-j : goal.overflow_add-j-in-loop-j
+overflow_add-j-in-loop-j c =
     let all = c.len-count.ensures.count in
     let few = c.args.self.now.few in
     omega arith
@@ -37,10 +43,10 @@ loop-j-preserved c =
     elim c.if-level.branch [
       | then-level v ↦
           rightward_other b c.args.was c.args.is (end b) (drop from cs) from j c.loop-j.old c.loop-j.new c.loop-j.found w here
-          _ (ap (λ s. s.class) c.surroundings-at.ensures ∙ item) _ context _ _ c.level.ensures.is c.level-in-loop-j.ensures.is _ _ c.after-old.ensures c.after-new.ensures _ (v.found_is ∙ v.hull-found.ensures) v.if-level.true
+          _ (ap (λ s. s.class) c.surroundings-at.ensures ∙ item) _ context _ _ c.level.ensures.is c.level-in-loop-j.ensures.is _ _ c.after-old.ensures c.after-new.ensures _ (v.found-is ∙ v.hull-found.ensures) v.if-level.true
       | else-level v ↦
           rightward_same b c.args.was c.args.is (end b) (drop from cs) from j c.loop-j.old c.loop-j.new c.loop-j.found w here
-          _ (ap (λ s. s.class) c.surroundings-at.ensures ∙ item) _ context _ _ c.level.ensures.is c.level-in-loop-j.ensures.is _ _ c.after-old.ensures c.after-new.ensures _ v.found_is v.if-level.false
+          _ (ap (λ s. s.class) c.surroundings-at.ensures ∙ item) _ context _ _ c.level.ensures.is c.level-in-loop-j.ensures.is _ _ c.after-old.ensures c.after-new.ensures _ v.found-is v.if-level.false
     ]
 
 pub returns-after-loop-j : goal.returns-after-loop-j
@@ -52,7 +58,19 @@ returns-after-loop-j c =
     rightward_end c.args.base c.args.was c.args.is (end c.args.base) (drop c.args.from cs) c.args.from
     c.loop-j.j c.loop-j.old c.loop-j.new c.loop-j.found (omega arith) c.loop-j.invariant
 
+-- left contexts whose parts are the same are one
+one_left : {x y : Left} → x.strong ≡ y.strong → x.side ≡ y.side → x.kind ≡ y.kind → x ≡ y
+one_left {x} {y} p q r =
+    let a : x ≡ record y { side = x.side; kind = x.kind } = ap (λ s. record x { strong = s }) p in
+    let b : record y { side = x.side; kind = x.kind } ≡ record y { kind = x.kind } = ap (λ s. record y { side = s; kind = x.kind }) q in
+    a ∙ b ∙ ap (λ s. record y { kind = s }) r
+
 pub returns-else-ne : goal.returns-else-ne
 returns-else-ne c =
+    let old = c.loop-j.old in
+    let new = c.loop-j.new in
+    let all = and_parts _ _ (not-false _ (sym c.ne.ensures ∙ c.if-ne.false)) in
+    let rest = and_parts _ _ all.1 in
+    let same : old ≡ new = one_left (same_true strong_type (search rules) _ _ all.0) (same_true side_type (search rules) _ _ rest.0) (same_true kind_type (search rules) _ _ rest.1) in
     rightward_agree c.args.base c.args.was c.args.is (end c.args.base) (drop c.args.from (classes (items_of c.args.self.now))) c.args.from
-    c.loop-j.j c.loop-j.old c.loop-j.new c.loop-j.found (search rules) c.loop-j.invariant
+    c.loop-j.j old new c.loop-j.found same c.loop-j.invariant
