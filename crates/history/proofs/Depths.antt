@@ -1,5 +1,5 @@
 -- What a depth in a paragraph's rows shows of its items.
-use Rattle.std.proofs.Common.{◌≡◌, ℕ, ◌-◌, ◌^◌, ◌<◌, ◌≤◌, List, length, ap, subst}
+use Rattle.std.proofs.Common.{◌≡◌, ℕ, ◌-◌, ◌^◌, ◌≤◌, List, length, subst}
 use Rattle.tree.specs.Trees.{shape, elements_of, depth_in, least, places_at}
 use Rattle.tree.proofs.Facts.{deep_enough, sparse_enough}
 use Rattle.bidi.specs.declared.item.Item.{Item}

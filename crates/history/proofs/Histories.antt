@@ -1,5 +1,5 @@
 -- One change more.
-use Rattle.std.proofs.Common.{◌≡◌, ℕ, List, [], ◌∷◌, ◌++◌, length, Result, sym, refl, ap, ◌∙◌, arith}
+use Rattle.std.proofs.Common.{◌≡◌, ℕ, List, [], ◌∷◌, ◌++◌, length, Result, refl, arith}
 use Rattle.bidi.specs.declared.item.Item.{Item}
 use Rattle.paragraph.specs.declared.fault.ParagraphFault.{ParagraphFault}
 use Rattle.paragraph.specs.declared.outcome.Outcome.{Outcome}

@@ -1,5 +1,5 @@
 -- What the plain paragraph answers to a question, where each place has a depth.
-use Rattle.std.specs.Prelude.{ℕ, List, Ok, Err, Result}
+use Rattle.std.specs.Prelude.{ℕ, Ok, Err, Result}
 use Rattle.bidi.specs.Items.{widths}
 use Rattle.paragraph.specs.Asking.{level_answer, column_answer}
 use Rattle.paragraph.specs.Faults.{Refusal}

@@ -1,5 +1,5 @@
 -- What a buffer that has just room enough holds when it was filled.
-use Rattle.std.proofs.Common.{◌≡◌, ℕ, true, cond, leb, List, [], ◌++◌, length, take, drop, ap, ◌∙◌, append-nil, arith}
+use Rattle.std.proofs.Common.{◌≡◌, ℕ, true, cond, leb, List, ◌++◌, length, take, drop, ap, ◌∙◌, append-nil, arith}
 use Rattle.std.proofs.lemmas.List.{drop_all, take_at}
 use Rattle.std.proofs.lemmas.Bool.{le-leb, cond-true}
 

@@ -1,7 +1,7 @@
-use Rattle.std.proofs.Common.{◌≡◌, ltb, map, length, take, sym, refl, ap, ◌∙◌, subst}
+use Rattle.std.proofs.Common.{◌≡◌, ltb, map, length, take, sym, ap, ◌∙◌, subst}
 use Rattle.std.proofs.lemmas.Bool.{le-ltb, cond-false}
 use Rattle.tree.specs.Trees.{depth_in}
-use Rattle.paragraph.specs.Paragraphs.{items_of, room_of, plain_of}
+use Rattle.paragraph.specs.Paragraphs.{room_of, plain_of}
 use Rattle.history.specs.Law.{empty}
 use Rattle.paragraph.specs.Plain.{Plain}
 use Rattle.history.specs.Plain.{after_all, Answered}
@@ -15,25 +15,25 @@ returns c =
     let recorded = c.args.recorded.now in
     let changes = c.args.changes.now in
     let questions = c.args.questions.now in
-    let emptied = c.empty-out.new.paragraph in
-    let p = c.change-all.new.paragraph in
-    let told = take (length changes) c.change-all.new.outcomes in
-    let start : plain_of emptied ≡ empty c.args.direction = λ t. record { direction = c.empty-out.ensures.direction t; items = c.empty-out.ensures.items t } in
-    let same = c.empty-out.ensures.room in
+    let emptied = c.empty_out.new.paragraph in
+    let p = c.change_all.new.paragraph in
+    let told = take (length changes) c.change_all.new.outcomes in
+    let start : plain_of emptied ≡ empty c.args.direction = λ t. record { direction = c.empty_out.ensures.direction t; items = c.empty_out.ensures.items t } in
+    let same = c.empty_out.ensures.room in
     let plain : plain_of p ≡ after_all room recorded (empty c.args.direction) changes =
-    c.change-all.ensures.plain ∙ ap (λ n. after_all n recorded (plain_of emptied) changes) same ∙ ap (λ q. after_all room recorded q changes) start in
+    c.change_all.ensures.plain ∙ ap (λ n. after_all n recorded (plain_of emptied) changes) same ∙ ap (λ q. after_all room recorded q changes) start in
     let items = ap (λ (q : Plain). q.items) plain in
     record {
       answer =
           sym (cond-false (ltb (length c.args.outcomes.now) (length changes)) _ _ (le-ltb (length c.args.outcomes.now) (length changes) c.if-outcomes-changes.false)
           ∙ cond-false (ltb (length c.args.answers.now) (length questions)) _ _ (le-ltb (length c.args.answers.now) (length questions) c.if-answers-questions.false));
       law = record {
-        answered = subst (λ q. Answered room recorded q changes told) start (subst (λ n. Answered n recorded (plain_of emptied) changes told) same c.change-all.ensures.answered);
+        answered = subst (λ q. Answered room recorded q changes told) start (subst (λ n. Answered n recorded (plain_of emptied) changes told) same c.change_all.ensures.answered);
         plain = plain;
-        told = c.ask-all.ensures.told ∙ ap (λ q. map (question_answer q (depth_in p.tree.now)) questions) plain;
+        told = c.ask_all.ensures.told ∙ ap (λ q. map (question_answer q (depth_in p.tree.now)) questions) plain;
         deep = λ place h. deep_in p _ items place;
         sparse = sparse_in p _ items;
       };
-      spare = (c.change-all.ensures.spare, c.ask-all.ensures.spare);
+      spare = (c.change_all.ensures.spare, c.ask_all.ensures.spare);
       refused = (tt, tt, tt);
     }

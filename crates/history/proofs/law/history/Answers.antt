@@ -3,11 +3,11 @@ use Rattle.std.proofs.lemmas.Result.{err_from_is_err_and, IfOk-at_ok}
 use Rattle.std.proofs.lemmas.Bool.{le-ltb, cond-false}
 use Rattle.history.proofs.law.history.Goals as goal
 
-pub returns-in-err-history : goal.returns-in-err-history
-returns-in-err-history g c =
-    let h = c.in-err-history.ensures in
+pub returns-in_err-history : goal.returns-in_err-history
+returns-in_err-history g c =
+    let h = c.in_err-history.ensures in
     let a = c.args in
-    let r = err_from_is_err_and c.from-residual.result c.from-residual.ensures.1 in
+    let r = err_from_is_err_and c.from_residual.result c.from_residual.ensures.1 in
     let past =
     cond-false (ltb (length a.outcomes.now) (length a.changes.now)) _ _ (le-ltb (length a.outcomes.now) (length a.changes.now) c.if-outcomes-changes.false)
     ∙ cond-false (ltb (length a.answers.now) (length a.questions.now)) _ _ (le-ltb (length a.answers.now) (length a.questions.now) c.if-answers-questions.false) in
@@ -21,18 +21,18 @@ returns-in-err-history g c =
 pub returns : goal.returns
 returns g c =
     let a = c.args in
-    let tree = c.in-ok-history.ensures in
-    let answered = c.paragraph-history.result in
+    let tree = c.in_ok-history.ensures in
+    let answered = c.paragraph_history.result in
     let past =
     cond-false (ltb (length a.outcomes.now) (length a.changes.now)) _ _ (le-ltb (length a.outcomes.now) (length a.changes.now) c.if-outcomes-changes.false)
     ∙ cond-false (ltb (length a.answers.now) (length a.questions.now)) _ _ (le-ltb (length a.answers.now) (length a.questions.now) c.if-answers-questions.false) in
     let done : answered ≡ Ok tt =
-    c.paragraph-history.ensures.answer
+    c.paragraph_history.ensures.answer
     ∙ cond-false (ltb (length a.outcomes.now) (length a.changes.now)) _ _ (le-ltb (length a.outcomes.now) (length a.changes.now) c.if-outcomes-changes.false)
     ∙ cond-false (ltb (length a.answers.now) (length a.questions.now)) _ _ (le-ltb (length a.answers.now) (length a.questions.now) c.if-answers-questions.false) in
     record {
       answer = tree.answer ∙ sym past;
-      law = record { of_tree = tree.law; of_paragraph = IfOk-at_ok _ done c.paragraph-history.ensures.law };
+      law = record { of_tree = tree.law; of_paragraph = IfOk-at_ok _ done c.paragraph_history.ensures.law };
       refused = (tt, tt);
       lists = (tt, tt, tt, tt);
     }

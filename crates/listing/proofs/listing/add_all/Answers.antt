@@ -13,7 +13,7 @@ added t0 t1 t2 t3 t4 t5 t6 t7 t8 a b d e f g h i p1 p2 p3 p4 p5 p6 p7 p8 =
 
 pub returns : goal.returns
 returns c =
-    added (string_bytes c.args.text.now) _ _ _ _ _ _ _ (string_bytes c.add-columns.new.text)
+    added (string_bytes c.args.text.now) _ _ _ _ _ _ _ (string_bytes c.add_columns.new.text)
     (codes "base") (spaced (c.args.base ∷ [])) (codes "\tlevels") (spaced c.args.levels.now) (codes "\torder") _ (codes "\tcolumns") (spaced (columns_from c.args.levels.now c.args.items.now))
-    c.in-ok-add-name.ensures c.in-ok-add-bytes.ensures c.in-ok-add-name-2.ensures c.in-ok-add-bytes-2.ensures
-    c.in-ok-add-name-3.ensures (c.in-ok-add-places.ensures ∙ ap (λ ps. string_bytes c.add-name-3.new.text ++ spaced ps) c.requires.1.1) c.in-ok-add-name-4.ensures c.in-ok-add-columns.ensures
+    c.in_ok-add_name.ensures c.in_ok-add_bytes.ensures c.in_ok-add_name-2.ensures c.in_ok-add_bytes-2.ensures
+    c.in_ok-add_name-3.ensures (c.in_ok-add_places.ensures ∙ ap (λ ps. string_bytes c.add_name-3.new.text ++ spaced ps) c.requires.1.1) c.in_ok-add_name-4.ensures c.in_ok-add_columns.ensures

@@ -1,4 +1,4 @@
-use Rattle.std.proofs.Common.{◌≡◌, ℕ, ◌<◌, ◌∷◌, ◌++◌, length, get_or, Ok, string_bytes, decimal, sym, refl, ap, ◌∙◌, arith}
+use Rattle.std.proofs.Common.{◌≡◌, ℕ, ◌<◌, ◌∷◌, ◌++◌, length, Ok, string_bytes, decimal, sym, refl, ap, ◌∙◌, arith}
 use Rattle.bidi.specs.Columning.{column_answer}
 use Rattle.bidi.specs.Items.{widths}
 use Rattle.bidi.specs.Sums.{held}
@@ -7,7 +7,7 @@ use Rattle.listing.specs.Text.{columns_from}
 use Rattle.listing.proofs.Columns.{answered, column_at, length-columns}
 use Rattle.listing.proofs.Spacing.{spaced_more, spaced_all}
 use Rattle.listing.proofs.listing.add_columns.Goals as goal
-use Rattle.listing.proofs.listing.add_columns.Goals.{in-Ok+in-ok-add-number, in-default}
+use Rattle.listing.proofs.listing.add_columns.Goals.{in-Ok+in_ok-add_number, in_default}
 
 pub loop-place-init : goal.loop-place-init
 loop-place-init c = refl
@@ -22,15 +22,15 @@ loop-place-preserved c =
     let told : column_answer levels items p ≡ Ok (held (column_of levels (widths items) p)) = answered levels items p c.requires.0 c.requires.1 lt in
     let asked : c.column.result ≡ column_answer levels items p = c.column.ensures in
     elim c.match-column.branch [
-      | in-Ok+in-ok-add-number w ↦
+      | in-Ok+in_ok-add_number w ↦
           let found : c.column.result ≡ Ok w.in-Ok.c = w.in-Ok.is in
           let same : w.in-Ok.c ≡ held (column_of levels (widths items) p) = cc in
           spaced_more (string_bytes c.args.text.now) ns (string_bytes c.loop-place.text) (string_bytes c.match-column.text) p
           (omega (arith, length-columns levels items))
-          (ap string_bytes w.text-is ∙ w.in-ok-add-number.ensures ∙ ap (λ n. string_bytes c.loop-place.text ++ (32 ∷ decimal n)) (same ∙ sym (column_at levels items p lt)))
+          (ap string_bytes w.text-is ∙ w.in_ok-add_number.ensures ∙ ap (λ n. string_bytes c.loop-place.text ++ (32 ∷ decimal n)) (same ∙ sym (column_at levels items p lt)))
           c.loop-place.invariant
-      | in-default w ↦
-          let found = w.in-default.is in
+      | in_default w ↦
+          let found = w.in_default.is in
           let z : ◌≡◌ {A = ℕ} 0 1 = cc in
           let never : ⊥ = omega arith in
           absurd never

@@ -1,4 +1,4 @@
-use Rattle.std.proofs.Common.{◌≡◌, ℕ, ◌≤◌, ◌++◌, length, sym, ap, ◌∙◌, ap₂}
+use Rattle.std.proofs.Common.{◌≡◌, ◌≤◌, ◌++◌, length, sym, ap, ◌∙◌, ap₂}
 use mathlib.Core.Path.{subst⁻¹}
 use Rattle.std.specs.List.{AllByRecursion as All}
 use Rattle.std.proofs.lemmas.List.{length-map}
@@ -10,24 +10,24 @@ use Rattle.bidi.specs.Items.{classes}
 use Rattle.bidi.specs.Resolving.{base_of, levels_of}
 use Rattle.listing.proofs.listing.listing.Goals as goal
 
-pub add-all-requires : goal.add-all-requires
-add-all-requires c =
+pub add_all-requires : goal.add_all-requires
+add_all-requires c =
     let items = c.args.items.now in
     let direction = c.args.direction in
     let low = levels_are_low_lem (base_of direction items) (classes items) in
-    let levels : c.as-slice-2.result.now ≡ levels_of direction items = c.as-slice-2.ensures.value ∙ c.in-ok-base.ensures.1 in
-    let first : c.as-slice.result.now ≡ levels_of direction items = c.as-slice.ensures.value ∙ c.in-ok-base.ensures.1 in (
+    let levels : c.as_slice-2.result.now ≡ levels_of direction items = c.as_slice-2.ensures.value ∙ c.in_ok-base.ensures.1 in
+    let first : c.as_slice.result.now ≡ levels_of direction items = c.as_slice.ensures.value ∙ c.in_ok-base.ensures.1 in (
       ap length levels ∙ low.0 ∙ length-map items (λ i. i.class),
-      (subst⁻¹ (All (λ l. l ≤ 2)) levels low.1, c.as-slice-3.ensures.value ∙ c.in-ok-places.ensures ∙ ap L2 (first ∙ sym levels)),
+      (subst⁻¹ (All (λ l. l ≤ 2)) levels low.1, c.as_slice-3.ensures.value ∙ c.in_ok-places.ensures ∙ ap L2 (first ∙ sym levels)),
     )
 
 pub returns : goal.returns
 returns c =
     let items = c.args.items.now in
     let direction = c.args.direction in
-    let told = c.in-ok-base.ensures in
+    let told = c.in_ok-base.ensures in
     let base : c.level.result ≡ base_level (base_of direction items) = c.level.ensures ∙ ap base_level told.0 in
-    let levels : c.as-slice-2.result.now ≡ levels_of direction items = c.as-slice-2.ensures.value ∙ told.1 in
-    c.in-ok-add-all.ensures
-    ∙ ap (λ t. t ++ listed_from c.level.result c.as-slice-2.result.now items) c.new-text.ensures.bytes
+    let levels : c.as_slice-2.result.now ≡ levels_of direction items = c.as_slice-2.ensures.value ∙ told.1 in
+    c.in_ok-add_all.ensures
+    ∙ ap (λ t. t ++ listed_from c.level.result c.as_slice-2.result.now items) c.new-text.ensures.bytes
     ∙ ap₂ (λ b ls. listed_from b ls items) base levels

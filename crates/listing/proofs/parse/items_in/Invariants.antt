@@ -1,4 +1,4 @@
-use Rattle.std.proofs.Common.{◌≡◌, ℕ, ◌-◌, ◌≤◌, map, length, drop, vec_items, vec_len}
+use Rattle.std.proofs.Common.{◌≡◌, ◌-◌, map, length, drop, vec_items, vec_len}
 use Rattle.listing.specs.Lines.{items_read, onto, reading}
 use Rattle.listing.proofs.parse.items_in.Given as goal
 

@@ -7,8 +7,8 @@ loop-n-init c = refl
 
 pub loop-n-preserved : goal.loop-n-preserved
 loop-n-preserved c =
-    spaced_more (string_bytes c.args.text.now) c.args.ns.now (string_bytes c.loop-n.text) (string_bytes c.add-number.new.text) c.loop-n.n-index (omega arith)
-    c.in-ok-add-number.ensures
+    spaced_more (string_bytes c.args.text.now) c.args.ns.now (string_bytes c.loop-n.text) (string_bytes c.add_number.new.text) c.loop-n.n-index (omega arith)
+    c.in_ok-add_number.ensures
     c.loop-n.invariant
 
 pub returns : goal.returns
