@@ -1,4 +1,4 @@
-use Rattle.std.proofs.Common.{◌≡◌, true, false, refl, ◌∙◌}
+use Rattle.std.proofs.Common.{true, false, refl, ◌∙◌}
 use Rattle.pages.proofs.Words.{picks}
 use Rattle.pages.proofs.parse.parse.Goals as goal
 
