@@ -3,7 +3,7 @@
 ghost use Rattle.std.specs.Prelude.{◌≡◌, ◌≤◌, map, length, take, drop};
 ghost use Rattle.tree.specs.Trees.{depth_in};
 ghost use Rattle.paragraph.specs.Faults.{numbered};
-ghost use Rattle.paragraph.specs.Paragraphs.{plain_of};
+ghost use Rattle.history.specs.Plain.{plain_of};
 ghost use Rattle.history.specs.Questions.{question_answer};
 
 use crate::request::{Question, Told};
