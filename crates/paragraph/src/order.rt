@@ -1,33 +1,25 @@
 //! The visual order of a whole paragraph.
 
-ghost use Rattle.std.specs.Prelude.{◌≡◌, ◌≤◌, length, take};
+ghost use Rattle.std.specs.Prelude.{◌≡◌, ◌≤◌, length};
 ghost use Rattle.paragraph.specs.Faults.{verdict};
-ghost use Rattle.paragraph.specs.Ordering.{order_answer, ordered, levelled};
-ghost use Rattle.paragraph.specs.Paragraphs.{items_of, levels_in};
+ghost use Rattle.paragraph.specs.Ordering.{order_answer, overwritten, ordered, levelled};
+ghost use Rattle.paragraph.specs.Paragraphs.{items_of, base_in, levels_in};
 
 use crate::fault::ParagraphFault;
 use crate::paragraph::Paragraph;
-use bidi::item::Item;
 use bidi::order::order;
-use bidi::resolve::resolve;
-use rules::Class;
-
-/// The most items of a paragraph.
-const LIMIT: usize = 4096;
-
-/// Fills a list of items.
-const BLANK: Item = Item {
-    class: Class::L,
-    width: 0,
-};
+use rules::Side;
 
 impl Paragraph<'_, '_> {
-    /// Copies all items to the front of a list that has room for them.
-    fn copy_items(&self, items: &mut [Item])
-        requires { length (items_of self.now) ≤ length items.old }
-        ensures { take (length (items_of self.now)) items.new ≡ items_of self.now }
+    /// Writes the level of each item.
+    fn write_levels(&self, base: Side, scratch: &mut [u8])
+        requires base { base ≡ base_in self.now }
+        requires room { length (items_of self.now) ≤ length scratch.old }
+        ensures { scratch.new ≡ overwritten (length (levels_in self.now)) (levels_in self.now) scratch.old }
     {
-        let _ = self.tree.copy(0, items);
+        for i in 0..self.tree.len() {
+            scratch[i] = self.level_at(base, i);
+        }
     }
 
     /// Writes all places in visual order into the list, and the levels in paragraph order into the scratch. Entries past the items stay.
@@ -43,9 +35,7 @@ impl Paragraph<'_, '_> {
         if count > scratch.len() {
             return Err(ParagraphFault::Scratch);
         }
-        let mut items = [BLANK; LIMIT];
-        self.copy_items(&mut items);
-        let _ = resolve(self.direction, &items[0..count], scratch);
+        self.write_levels(self.base(), scratch);
         let _ = order(&scratch[0..count], list);
         Ok(())
     }

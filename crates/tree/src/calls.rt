@@ -119,7 +119,7 @@ impl<'a, E: Copy, T: Measure<E>> Tree<'a, E, T> {
         ensures answer { numbered result ≡ copy_answer (elements_of self.now) first (length out.old) }
         ensures out { out.new ≡ copied (elements_of self.now) first out.old }
     {
-        let count = usize::from(self.heads.count);
+        let count = self.heads.count as usize;
         if first > count {
             return Err(Fault::Place);
         }
