@@ -1,6 +1,6 @@
 -- The columns of resolved items, one by one.
 use Rattle.std.proofs.Common.{◌≡◌, ℕ, zero, suc, ◌+◌, ◌<◌, ◌≤◌, true, ltb, leb, List, length, get_or, Ok, refl, ap, ◌∙◌, arith}
-use Rattle.std.specs.List.{AllByRecursion as All}
+use Rattle.std.specs.List.{AllByRecursion}
 use Rattle.std.proofs.ByRecursion.{All-get_or}
 use Rattle.std.proofs.lemmas.List.{length-map, get_or-map, take_all}
 use Rattle.std.proofs.lemmas.Bool.{le-leb, lt-ltb, cond-true}
@@ -12,7 +12,7 @@ use Rattle.rules.specs.Order.{places, column_of}
 use Rattle.listing.specs.Text.{columns_from}
 
 -- with a level of at most 2 for each item, the column is told
-pub answered : (levels : List ℕ) (items : List Item) (p : ℕ) → length levels ≡ length items → All (λ l. l ≤ 2) levels → p < length items
+pub answered : (levels : List ℕ) (items : List Item) (p : ℕ) → length levels ≡ length items → AllByRecursion (λ l. l ≤ 2) levels → p < length items
     → column_answer levels items p ≡ Ok (held (column_of levels (widths items) p))
 answered levels items p long low lt =
     let fits : leb (length items) (length levels) ≡ true = le-leb (length items) (length levels) (omega arith) in

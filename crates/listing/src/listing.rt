@@ -5,7 +5,7 @@ ghost use Rattle.listing.specs.Text.{columns_from, listed, listed_from, refused_
 ghost use Rattle.bidi.specs.Resolving.{base_of, levels_of};
 ghost use Rattle.rules.specs.Order.{L2};
 ghost use Rattle.listing.specs.declared.refusal.Refusal.TheVariants.{Memory};
-ghost use Rattle.std.specs.List.{AllByRecursion as All};
+ghost use Rattle.std.specs.List.{AllByRecursion};
 
 use crate::refusal::Refusal;
 use crate::text::{add_bytes, add_name, add_number, add_places};
@@ -18,7 +18,7 @@ use std::alloc::{AllocError, Global};
 
 /// Adds the column of each item, each behind a space.
 fn add_columns(text: &mut String, levels: &[u8], items: &[Item]) -> Result<(), AllocError>
-    requires { (length levels.now ≡ length items.now) × (All (λ l. l ≤ 2) levels.now) }
+    requires { (length levels.now ≡ length items.now) × (AllByRecursion (λ l. l ≤ 2) levels.now) }
     ensures { OnOk result (string_bytes text.new ≡ string_bytes text.old ++ spaced (columns_from levels.now items.now)) }
 {
     for place in 0..items.len() {
@@ -59,7 +59,7 @@ fn add_all(
     places: &[usize],
     items: &[Item],
 ) -> Result<(), AllocError>
-    requires { (length levels.now ≡ length items.now) × ((All (λ l. l ≤ 2) levels.now) × (places.now ≡ L2 levels.now)) }
+    requires { (length levels.now ≡ length items.now) × ((AllByRecursion (λ l. l ≤ 2) levels.now) × (places.now ≡ L2 levels.now)) }
     ensures { OnOk result (string_bytes text.new ≡ string_bytes text.old ++ listed_from base levels.now items.now) }
 {
     add_name(text, "base")?;

@@ -1,7 +1,7 @@
 -- The L2 order around an item, by parts.
 use Rattle.std.proofs.Common.{◌≡◌, ℕ, ◌+◌, ◌<◌, ◌≤◌, List, [], ◌∷◌, ◌++◌, reverse, sum_by, refl, ap, ◌∙◌, append_assoc, arith}
 use mathlib.Core.List.{reverse-append, reverse-reverse, reverse-cons}
-use Rattle.std.specs.List.{AllByRecursion as All}
+use Rattle.std.specs.List.{AllByRecursion}
 use Rattle.std.proofs.lemmas.Bool.{eq-eqb, ne_eqb}
 use Rattle.std.proofs.lemmas.List.Sums.{sum_by-append}
 use Rattle.std.proofs.ByRecursion.{All-append}
@@ -10,7 +10,7 @@ use Rattle.rules.specs.Order.{before}
 use Rattle.rules.proofs.Reversing.{Begins, Ends, turned_all, cut_at, cut_out, sum_turned, all_turned, begins_higher, ends_higher, begins_still, ends_still, sum-reverse, all_reverse}
 
 abbrev pub Apart : ℕ → List ℕ → Type 0
-Apart p xs = All (λ q. p ≡ q → ⊥) xs
+Apart p xs = AllByRecursion (λ q. p ≡ q → ⊥) xs
 
 pub before_is : (p : ℕ) (xs ys : List ℕ) → Apart p xs → before p (xs ++ (p ∷ ys)) ≡ xs
 before_is p [] ys h = rw (eq-eqb p p refl, before)
@@ -23,11 +23,11 @@ module _ (level : ℕ → ℕ) where
   pub sum_twice : (f : ℕ → ℕ) (xs : List ℕ) → sum_by f (twice xs) ≡ sum_by f xs
   sum_twice f xs = sum_turned level 1 f (reversed level 2 xs) [] ∙ omega (arith, sum_turned level 2 f xs [])
 
-  pub all_twice : (P : ℕ → Type 0) (xs : List ℕ) → All P xs → All P (twice xs)
+  pub all_twice : (P : ℕ → Type 0) (xs : List ℕ) → AllByRecursion P xs → AllByRecursion P (twice xs)
   all_twice P xs h = all_turned level 1 P (reversed level 2 xs) [] tt (all_turned level 2 P xs [] tt h)
 
   -- a whole stretch of level 1 or more
-  pub outer : {us : List ℕ} → Ends level 1 us → (zs vs : List ℕ) → Begins level 1 vs → All (λ z. 1 ≤ level z) zs
+  pub outer : {us : List ℕ} → Ends level 1 us → (zs vs : List ℕ) → Begins level 1 vs → AllByRecursion (λ z. 1 ≤ level z) zs
       → twice (us ++ (zs ++ vs)) ≡ twice us ++ (reverse (reversed level 2 zs) ++ twice vs)
   outer {us} e zs vs b h =
       ap (reversed level 1) (cut_out level 2 (ends_higher level 1 2 (omega arith) e) zs vs (begins_higher level 1 2 (omega arith) vs b))
@@ -44,7 +44,7 @@ module _ (level : ℕ → ℕ) where
       ∙ append_assoc (reverse (reversed level 2 ns)) (p ∷ []) (reverse (reversed level 2 ms))
 
   -- a whole stretch of level 2 in it: it stands as it was
-  pub inner_two : {ms : List ℕ} → Ends level 2 ms → (zs ns : List ℕ) → Begins level 2 ns → All (λ z. 2 ≤ level z) zs
+  pub inner_two : {ms : List ℕ} → Ends level 2 ms → (zs ns : List ℕ) → Begins level 2 ns → AllByRecursion (λ z. 2 ≤ level z) zs
       → reverse (reversed level 2 (ms ++ (zs ++ ns))) ≡ reverse (reversed level 2 ns) ++ (zs ++ reverse (reversed level 2 ms))
   inner_two {ms} e zs ns b h =
       ap reverse (cut_out level 2 e zs ns b ∙ ap (λ l. reversed level 2 ms ++ (l ++ reversed level 2 ns)) (turned_all level 2 zs [] h))
@@ -69,7 +69,7 @@ module _ (level : ℕ → ℕ) where
         ∙ sum_twice w us
 
     pub column_one : {us : List ℕ} → Ends level 1 us → (ms ns vs : List ℕ) → Begins level 1 vs
-        → level p < 2 → All (λ z. 1 ≤ level z) (ms ++ (p ∷ ns)) → Apart p us → Apart p ns
+        → level p < 2 → AllByRecursion (λ z. 1 ≤ level z) (ms ++ (p ∷ ns)) → Apart p us → Apart p ns
         → sum_by w (before p (twice (us ++ ((ms ++ (p ∷ ns)) ++ vs)))) ≡ sum_by w us + sum_by w ns
     column_one {us} e ms ns vs b l h au an =
         let back : List ℕ = reverse (reversed level 2 ns) in
@@ -82,7 +82,7 @@ module _ (level : ℕ → ℕ) where
         ∙ omega (arith, sum_twice w us, sum_back ns)
 
     pub column_two : {us : List ℕ} → Ends level 1 us → {ms : List ℕ} → Ends level 2 ms → (cs ds ns vs : List ℕ)
-        → Begins level 2 ns → Begins level 1 vs → All (λ z. 1 ≤ level z) (ms ++ ((cs ++ (p ∷ ds)) ++ ns)) → All (λ z. 2 ≤ level z) (cs ++ (p ∷ ds))
+        → Begins level 2 ns → Begins level 1 vs → AllByRecursion (λ z. 1 ≤ level z) (ms ++ ((cs ++ (p ∷ ds)) ++ ns)) → AllByRecursion (λ z. 2 ≤ level z) (cs ++ (p ∷ ds))
         → Apart p us → Apart p ns → Apart p cs
         → sum_by w (before p (twice (us ++ ((ms ++ ((cs ++ (p ∷ ds)) ++ ns)) ++ vs)))) ≡ sum_by w us + sum_by w ns + sum_by w cs
     column_two {us} e {ms} f cs ds ns vs bn bv h1 h2 au an ac =

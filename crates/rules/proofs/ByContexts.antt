@@ -1,7 +1,7 @@
 -- The levels by the rules are the levels by contexts, in every paragraph.
 use Rattle.std.proofs.Common.{◌≡◌, ℕ, suc, ◌≤◌, Bool, true, false, cond, not, ◌&&◌, ◌||◌, T, leb, List, [], ◌∷◌, ◌++◌, map, length, get_or, sym, refl, ap, ◌∙◌, ap₂, eqb→eq, leb→le}
 use mathlib.Core.Path.{subst⁻¹}
-use Rattle.std.specs.List.{AllByRecursion as All}
+use Rattle.std.specs.List.{AllByRecursion}
 use Rattle.rules.specs.declared.classes.Class.{Class}
 use Rattle.rules.specs.declared.classes.Class.TheVariants.{L, R, EN, ET}
 use Rattle.rules.specs.declared.classes.Side.{Side}
@@ -205,10 +205,10 @@ as_many b l (c ∷ cs) = ap suc (as_many b (after l c) cs)
 low : (b : Side) (c : Class) → I b c ≤ 2
 low b c = leb→le (I b c) 2 (at₂ sides classes (λ b c. leb (I b c) 2) tt b c)
 
-all_low : (b : Side) (l : Left) (cs : List Class) → All (λ n. n ≤ 2) (by_context b l cs)
+all_low : (b : Side) (l : Left) (cs : List Class) → AllByRecursion (λ n. n ≤ 2) (by_context b l cs)
 all_low b l [] = tt
 all_low b l (c ∷ cs) = (low b (settled b l c (right_of b cs)), all_low b (after l c) cs)
 
 pub levels_are_low_lem : LevelsAreLow
 levels_are_low_lem b cs =
-    (ap length (whole b cs) ∙ as_many b (start b) cs, subst⁻¹ (All (λ n. n ≤ 2)) (whole b cs) (all_low b (start b) cs))
+    (ap length (whole b cs) ∙ as_many b (start b) cs, subst⁻¹ (AllByRecursion (λ n. n ≤ 2)) (whole b cs) (all_low b (start b) cs))

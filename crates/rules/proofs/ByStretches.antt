@@ -1,6 +1,6 @@
 -- Columns by stretches of places.
 use Rattle.std.proofs.Common.{◌≡◌, ℕ, zero, suc, ◌+◌, ◌-◌, ◌<◌, ◌≤◌, List, [], ◌∷◌, ◌++◌, length, get_or, take, drop, sum_by, sum, sym, refl, ap, ◌∙◌, subst, ⊎_elim, arith}
-use Rattle.std.specs.List.{AllByRecursion as All}
+use Rattle.std.specs.List.{AllByRecursion}
 use Rattle.std.proofs.lemmas.List.{drop_more}
 use Rattle.std.proofs.lemmas.List.Sums.{sum_by-cons}
 use Rattle.std.proofs.lemmas.Bool.{cases_lt}
@@ -37,11 +37,11 @@ span_head i m h = let e : m - i ≡ suc (m - suc i) = omega arith in ap (places 
 pub span_none : (i m : ℕ) → m ≤ i → span i m ≡ []
 span_none i m h = let e : m - i ≡ 0 = omega arith in ap (places i) e
 
-all_places : (P : ℕ → Type 0) (s n : ℕ) → ((i : ℕ) → s ≤ i → i < s + n → P i) → All P (places s n)
+all_places : (P : ℕ → Type 0) (s n : ℕ) → ((i : ℕ) → s ≤ i → i < s + n → P i) → AllByRecursion P (places s n)
 all_places P s zero h = tt
 all_places P s (suc n) h = (h s (omega arith) (omega arith), all_places P (suc s) n (λ i u v. h i (omega arith) (omega arith)))
 
-pub all_span : (P : ℕ → Type 0) (i j : ℕ) → ((n : ℕ) → i ≤ n → n < j → P n) → All P (span i j)
+pub all_span : (P : ℕ → Type 0) (i j : ℕ) → ((n : ℕ) → i ≤ n → n < j → P n) → AllByRecursion P (span i j)
 all_span P i j h = all_places P i (j - i) (λ n u v. h n u (omega arith))
 
 pub apart_below : (p i : ℕ) → i ≤ p → (s : ℕ) → Apart p (span s i)
@@ -109,7 +109,7 @@ columns_by_stretches levels widths p inside =
           in_order (span 0 a ++ ((span a p ++ (p ∷ span (suc p) b)) ++ span b n))
           (span_cut 0 a n (omega arith) (omega arith) ∙ ap (λ l. span 0 a ++ l) (span_cut a b n (omega arith) h ∙ ap (λ l. l ++ span b n) mid))
           ∙ at_level_one level w p m (ends_span level 1 0 a (omega arith) s.left) (span a p) (span (suc p) b) (span b n) (begins_span level 1 b n s.right) (omega arith)
-          (subst (All (λ z. 1 ≤ level z)) mid (all_span (λ z. 1 ≤ level z) a b s.high))
+          (subst (AllByRecursion (λ z. 1 ≤ level z)) mid (all_span (λ z. 1 ≤ level z) a b s.high))
           (apart_below p a f 0) (apart_above p (suc p) b (omega arith))
           ∙ ap (λ i. width_between widths 0 a + width_between widths i b) next,
       λ a b c d e s t.
@@ -128,8 +128,8 @@ columns_by_stretches levels widths p inside =
           (span_cut 0 a n (omega arith) (omega arith) ∙ ap (λ l. span 0 a ++ l) (span_cut a b n (omega arith) h ∙ ap (λ l. l ++ span b n) whole))
           ∙ at_level_two level w p m (ends_span level 1 0 a (omega arith) s.left) (ends_span level 2 a c ac t.left) (span c p) (span (suc p) d) (span d b) (span b n)
           (begins_span level 2 d b (λ lt. t.right (omega arith))) (begins_span level 1 b n s.right) (omega arith)
-          (subst (All (λ z. 1 ≤ level z)) whole (all_span (λ z. 1 ≤ level z) a b s.high))
-          (subst (All (λ z. 2 ≤ level z)) mid (all_span (λ z. 2 ≤ level z) c d t.high))
+          (subst (AllByRecursion (λ z. 1 ≤ level z)) whole (all_span (λ z. 1 ≤ level z) a b s.high))
+          (subst (AllByRecursion (λ z. 2 ≤ level z)) mid (all_span (λ z. 2 ≤ level z) c d t.high))
           (apart_below p a f 0) (apart_above p d b g2) (apart_below p p (omega arith) c),
     )
 

@@ -1,6 +1,6 @@
 -- The column of an item at level 2 or below, whatever the levels of the others: higher reversals stay on one side of it.
 use Rattle.std.proofs.Common.{◌≡◌, ℕ, zero, suc, ◌+◌, ◌<◌, ◌≤◌, List, [], ◌∷◌, ◌++◌, sum_by, refl, ap, ◌∙◌, subst, ap₂, arith}
-use Rattle.std.specs.List.{AllByRecursion as All}
+use Rattle.std.specs.List.{AllByRecursion}
 use Rattle.rules.specs.Order.{reversed, reordered, before}
 use Rattle.rules.proofs.Reversing.{Begins, Ends, cut_at, cut_out, sum_turned, all_turned, begins_higher, ends_higher, begins_still, ends_still}
 use Rattle.rules.proofs.AroundItem.{Apart, twice, column_zero, column_one, column_two}
@@ -20,7 +20,7 @@ module _ (level : ℕ → ℕ) where
   higher_sum f zero xs = refl
   higher_sum f (suc k) xs = higher_sum f k (reversed level (suc (suc (suc k))) xs) ∙ omega (arith, sum_turned level (suc (suc (suc k))) f xs [])
 
-  higher_all : (P : ℕ → Type 0) (k : ℕ) (xs : List ℕ) → All P xs → All P (higher k xs)
+  higher_all : (P : ℕ → Type 0) (k : ℕ) (xs : List ℕ) → AllByRecursion P xs → AllByRecursion P (higher k xs)
   higher_all P zero xs h = h
   higher_all P (suc k) xs h = higher_all P k (reversed level (suc (suc (suc k))) xs) (all_turned level (suc (suc (suc k))) P xs [] tt h)
 
@@ -63,17 +63,17 @@ module _ (level : ℕ → ℕ) where
         ∙ higher_sum w k us
 
     pub at_level_one : {us : List ℕ} → Ends level 1 us → (ms ns vs : List ℕ) → Begins level 1 vs
-        → level p < 2 → All (λ z. 1 ≤ level z) (ms ++ (p ∷ ns)) → Apart p us → Apart p ns
+        → level p < 2 → AllByRecursion (λ z. 1 ≤ level z) (ms ++ (p ∷ ns)) → Apart p us → Apart p ns
         → column_in (us ++ ((ms ++ (p ∷ ns)) ++ vs)) ≡ sum_by w us + sum_by w ns
     at_level_one {us} e ms ns vs b l h au an =
         let mid : higher k (ms ++ (p ∷ ns)) ≡ higher k ms ++ (p ∷ higher k ns) = higher_at k ms p ns (omega arith) in
         ap (λ l. sum_by w (before p (twice level l))) (higher_out 1 (omega arith) k e (ms ++ (p ∷ ns)) vs b ∙ ap (λ l. higher k us ++ (l ++ higher k vs)) mid)
         ∙ column_one level w p (higher_ends 1 (omega arith) k e) (higher k ms) (higher k ns) (higher k vs) (higher_begins 1 (omega arith) k vs b) l
-        (subst (All (λ z. 1 ≤ level z)) mid (higher_all (λ z. 1 ≤ level z) k (ms ++ (p ∷ ns)) h)) (apart us au) (apart ns an)
+        (subst (AllByRecursion (λ z. 1 ≤ level z)) mid (higher_all (λ z. 1 ≤ level z) k (ms ++ (p ∷ ns)) h)) (apart us au) (apart ns an)
         ∙ ap₂ ◌+◌ (higher_sum w k us) (higher_sum w k ns)
 
     pub at_level_two : {us : List ℕ} → Ends level 1 us → {ms : List ℕ} → Ends level 2 ms → (cs ds ns vs : List ℕ)
-        → Begins level 2 ns → Begins level 1 vs → level p < 3 → All (λ z. 1 ≤ level z) (ms ++ ((cs ++ (p ∷ ds)) ++ ns)) → All (λ z. 2 ≤ level z) (cs ++ (p ∷ ds))
+        → Begins level 2 ns → Begins level 1 vs → level p < 3 → AllByRecursion (λ z. 1 ≤ level z) (ms ++ ((cs ++ (p ∷ ds)) ++ ns)) → AllByRecursion (λ z. 2 ≤ level z) (cs ++ (p ∷ ds))
         → Apart p us → Apart p ns → Apart p cs
         → column_in (us ++ ((ms ++ ((cs ++ (p ∷ ds)) ++ ns)) ++ vs)) ≡ sum_by w us + sum_by w ns + sum_by w cs
     at_level_two {us} e {ms} f cs ds ns vs bn bv l h1 h2 au an ac =
@@ -83,7 +83,7 @@ module _ (level : ℕ → ℕ) where
         ap (λ x. sum_by w (before p (twice level x))) (higher_out 1 (omega arith) k e (ms ++ ((cs ++ (p ∷ ds)) ++ ns)) vs bv ∙ ap (λ x. higher k us ++ (x ++ higher k vs)) inner)
         ∙ column_two level w p (higher_ends 1 (omega arith) k e) (higher_ends 2 (omega arith) k f) (higher k cs) (higher k ds) (higher k ns) (higher k vs)
         (higher_begins 2 (omega arith) k ns bn) (higher_begins 1 (omega arith) k vs bv)
-        (subst (All (λ z. 1 ≤ level z)) inner (higher_all (λ z. 1 ≤ level z) k (ms ++ ((cs ++ (p ∷ ds)) ++ ns)) h1))
-        (subst (All (λ z. 2 ≤ level z)) mid (higher_all (λ z. 2 ≤ level z) k (cs ++ (p ∷ ds)) h2))
+        (subst (AllByRecursion (λ z. 1 ≤ level z)) inner (higher_all (λ z. 1 ≤ level z) k (ms ++ ((cs ++ (p ∷ ds)) ++ ns)) h1))
+        (subst (AllByRecursion (λ z. 2 ≤ level z)) mid (higher_all (λ z. 2 ≤ level z) k (cs ++ (p ∷ ds)) h2))
         (apart us au) (apart ns an) (apart cs ac)
         ∙ ap₂ ◌+◌ (ap₂ ◌+◌ (higher_sum w k us) (higher_sum w k ns)) (higher_sum w k cs)

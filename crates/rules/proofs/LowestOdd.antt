@@ -1,7 +1,7 @@
 -- Down to the lowest odd level, as the standard words it, or down to level 1: the same.
 use Rattle.std.proofs.Common.{◌≡◌, ℕ, zero, suc, ◌+◌, ◌*◌, ◌<◌, ◌≤◌, List, [], ◌∷◌, ◌++◌, length, sym, refl, ap, ◌∙◌, ap₂, ⊎_elim, arith}
 use mathlib.Core.List.{reverse_aux, reverse_aux-eq}
-use Rattle.std.specs.List.{AllByRecursion as All}
+use Rattle.std.specs.List.{AllByRecursion}
 use Rattle.std.proofs.lemmas.Bool.{le-leb, lt-leb, cases_lt}
 use Rattle.rules.specs.Order.{places, turned, reversed, reordered, highest, L2, at}
 use Rattle.rules.specs.Stretches.{reordered_to, LowestOdd}
@@ -9,7 +9,7 @@ use Rattle.rules.proofs.Reversing.{turned_high, turned_low, turned_all, cut_at}
 
 -- a reversal undoes itself
 module _ (level : ℕ → ℕ) (k : ℕ) where
-  undone : (xs run : List ℕ) → All (λ x. k ≤ level x) run → reversed level k (turned level k run xs) ≡ reverse_aux run xs
+  undone : (xs run : List ℕ) → AllByRecursion (λ x. k ≤ level x) run → reversed level k (turned level k run xs) ≡ reverse_aux run xs
   undone [] run h = turned_all level k run [] h
   undone (x ∷ xs) run h =
       ⊎_elim

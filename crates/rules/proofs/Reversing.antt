@@ -1,7 +1,7 @@
 -- Reversal at one level.
 use Rattle.std.proofs.Common.{◌≡◌, ℕ, ◌+◌, ◌<◌, ◌≤◌, List, [], ◌∷◌, ◌++◌, sum_by, sym, refl, ap, ◌∙◌, subst, ⊎_elim, append_assoc, append-nil, arith}
 use mathlib.Core.List.{reverse_aux}
-use Rattle.std.specs.List.{AllByRecursion as All}
+use Rattle.std.specs.List.{AllByRecursion}
 use Rattle.std.proofs.lemmas.Bool.{le-leb, lt-leb, cases_lt}
 use Rattle.std.proofs.lemmas.List.Sums.{sum_by-cons, sum_by-append}
 use Rattle.std.proofs.ByRecursion.{All-append}
@@ -25,7 +25,7 @@ module _ (level : ℕ → ℕ) (k : ℕ) where
   turned_low run x xs h = rw (lt-leb k (level x) h, turned)
 
   -- a list of high items alone
-  pub turned_all : (xs run : List ℕ) → All (λ x. k ≤ level x) xs → turned level k run xs ≡ reverse_aux xs run
+  pub turned_all : (xs run : List ℕ) → AllByRecursion (λ x. k ≤ level x) xs → turned level k run xs ≡ reverse_aux xs run
   turned_all [] run h = refl
   turned_all (x ∷ xs) run h = turned_high run x xs h.0 ∙ turned_all xs (x ∷ run) h.1
 
@@ -64,12 +64,12 @@ module _ (level : ℕ → ℕ) (k : ℕ) where
       (λ high. ap (sum_by f) (turned_high run x xs high) ∙ omega (arith, sum_turned f xs (x ∷ run), sum_by-cons f x xs, sum_by-cons f x run))
       (cases_lt (level x) k)
 
-  pub all_turned : (P : ℕ → Type 0) (xs run : List ℕ) → All P run → All P xs → All P (turned level k run xs)
+  pub all_turned : (P : ℕ → Type 0) (xs run : List ℕ) → AllByRecursion P run → AllByRecursion P xs → AllByRecursion P (turned level k run xs)
   all_turned P [] run r h = r
   all_turned P (x ∷ xs) run r h =
       ⊎_elim
-      (λ low. subst (All P) (sym (turned_low run x xs low)) (All-append P run (x ∷ reversed level k xs) r (h.0, all_turned P xs [] tt h.1)))
-      (λ high. subst (All P) (sym (turned_high run x xs high)) (all_turned P xs (x ∷ run) (h.0, r) h.1))
+      (λ low. subst (AllByRecursion P) (sym (turned_low run x xs low)) (All-append P run (x ∷ reversed level k xs) r (h.0, all_turned P xs [] tt h.1)))
+      (λ high. subst (AllByRecursion P) (sym (turned_high run x xs high)) (all_turned P xs (x ∷ run) (h.0, r) h.1))
       (cases_lt (level x) k)
 
 -- boundaries of a lower level are boundaries, and stay where they are
@@ -95,6 +95,6 @@ pub sum-reverse : (f : ℕ → ℕ) (xs run : List ℕ) → sum_by f (reverse_au
 sum-reverse f [] run = omega arith
 sum-reverse f (x ∷ xs) run = sum-reverse f xs (x ∷ run) ∙ omega (arith, sum_by-cons f x xs, sum_by-cons f x run)
 
-pub all_reverse : (P : ℕ → Type 0) (xs run : List ℕ) → All P xs → All P run → All P (reverse_aux xs run)
+pub all_reverse : (P : ℕ → Type 0) (xs run : List ℕ) → AllByRecursion P xs → AllByRecursion P run → AllByRecursion P (reverse_aux xs run)
 all_reverse P [] run h r = r
 all_reverse P (x ∷ xs) run h r = all_reverse P xs (x ∷ run) h.1 (h.0, r)

@@ -1,6 +1,6 @@
 -- With levels at most 2, two reversals make the L2 order.
 use Rattle.std.proofs.Common.{◌≡◌, ℕ, zero, suc, ◌+◌, ◌-◌, ◌<◌, ◌≤◌, List, [], ◌∷◌, length, get_or, sym, refl, ap, ◌∙◌, arith}
-use Rattle.std.specs.List.{AllByRecursion as All}
+use Rattle.std.specs.List.{AllByRecursion}
 use Rattle.rules.specs.Order.{places, reversed, reordered, highest, at, L2}
 use Rattle.rules.specs.Stretches.{TwoReversals}
 use Rattle.rules.proofs.Reversing.{turned_low}
@@ -15,7 +15,7 @@ highest_is [] p = omega arith
 highest_is (l ∷ ls) zero = omega arith
 highest_is (l ∷ ls) (suc p) = omega (arith, highest_is ls p)
 
-pub highest_most : (levels : List ℕ) (k : ℕ) → All (λ l. l ≤ k) levels → highest levels ≤ k
+pub highest_most : (levels : List ℕ) (k : ℕ) → AllByRecursion (λ l. l ≤ k) levels → highest levels ≤ k
 highest_most [] k h = omega arith
 highest_most (l ∷ ls) k h = omega (arith, h.0, highest_most ls k h.1)
 
@@ -28,7 +28,7 @@ begun_above levels (suc d) xs =
     ∙ ap (reordered (at levels) (d + highest levels)) (turned_none (at levels) (suc (d + highest levels)) xs (λ p. omega (arith, highest_is levels p)))
     ∙ begun_above levels d xs
 
-pub begun_at : (levels : List ℕ) (k : ℕ) → All (λ l. l ≤ k) levels → L2 levels ≡ reordered (at levels) k (places 0 (length levels))
+pub begun_at : (levels : List ℕ) (k : ℕ) → AllByRecursion (λ l. l ≤ k) levels → L2 levels ≡ reordered (at levels) k (places 0 (length levels))
 unfolding L2
 begun_at levels k h =
     let e : k - highest levels + highest levels ≡ k = omega (arith, highest_most levels k h) in

@@ -1,6 +1,6 @@
 -- What is claimed of the contexts.
 use Rattle.std.specs.Prelude.{◌≡◌, ℕ, ◌≤◌, List, ◌∷◌, ◌++◌, length, slice_index}
-use Rattle.std.specs.List.{AllByRecursion as All}
+use Rattle.std.specs.List.{AllByRecursion}
 use Rattle.rules.specs.declared.classes.Class.{Class}
 use Rattle.rules.specs.declared.classes.Side.{Side}
 use Rattle.rules.specs.declared.contexts.Left.{Left}
@@ -33,4 +33,4 @@ IsLevel base l c r n =
 
 -- every item has a level, and none is above 2
 abbrev pub LevelsAreLow : Type 0
-LevelsAreLow = (base : Side) (cs : List Class) → (length (levels base cs) ≡ length cs) × All (λ l. l ≤ 2) (levels base cs)
+LevelsAreLow = (base : Side) (cs : List Class) → (length (levels base cs) ≡ length cs) × AllByRecursion (λ l. l ≤ 2) (levels base cs)

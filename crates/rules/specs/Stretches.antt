@@ -1,6 +1,6 @@
 -- What is claimed of the visual order, and the column of an item by the stretches of levels around it.
 use Rattle.std.specs.Prelude.{◌≡◌, ℕ, zero, suc, ◌+◌, ◌-◌, ◌*◌, ◌<◌, ◌≤◌, true, false, List, ◌∷◌, ◌++◌, reverse, length, take, sum_by, sum, nat_le, slice_index}
-use Rattle.std.specs.List.{between, AllByRecursion as All}
+use Rattle.std.specs.List.{between, AllByRecursion}
 use Rattle.rules.specs.Order.{at, places, reversed, highest, L2, column_of}
 
 -- the places from i up to and without j
@@ -38,7 +38,7 @@ ColumnsByStretches =
 abbrev pub ReversalLaws : Type 0
 ReversalLaws =
     (level : ℕ → ℕ) (k : ℕ)
-    → ((ps : List ℕ) → All (λ p. k ≤ level p) ps → reversed level k ps ≡ reverse ps)
+    → ((ps : List ℕ) → AllByRecursion (λ p. k ≤ level p) ps → reversed level k ps ≡ reverse ps)
     × ((ps : List ℕ) (q : ℕ) (qs : List ℕ) → level q < k → reversed level k (ps ++ (q ∷ qs)) ≡ reversed level k ps ++ (q ∷ reversed level k qs))
 
 -- the visual order has the same items: every sum over them is the same
@@ -62,7 +62,7 @@ LowestOdd =
 abbrev pub TwoReversals : Type 0
 TwoReversals =
     (levels : List ℕ)
-    → All (λ l. l ≤ 2) levels
+    → AllByRecursion (λ l. l ≤ 2) levels
     → L2 levels ≡ reversed (at levels) 1 (reversed (at levels) 2 (places 0 (length levels)))
 
 -- read along the visual order, the column of each item is the width of what was read before it

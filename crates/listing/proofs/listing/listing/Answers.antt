@@ -1,6 +1,6 @@
 use Rattle.std.proofs.Common.{◌≡◌, ◌≤◌, ◌++◌, length, sym, ap, ◌∙◌, ap₂}
 use mathlib.Core.Path.{subst⁻¹}
-use Rattle.std.specs.List.{AllByRecursion as All}
+use Rattle.std.specs.List.{AllByRecursion}
 use Rattle.std.proofs.lemmas.List.{length-map}
 use Rattle.rules.specs.Order.{L2}
 use Rattle.rules.specs.Rules.{base_level}
@@ -18,7 +18,7 @@ add_all-requires c =
     let levels : c.as_slice-2.result.now ≡ levels_of direction items = c.as_slice-2.ensures.value ∙ c.in_ok-base.ensures.1 in
     let first : c.as_slice.result.now ≡ levels_of direction items = c.as_slice.ensures.value ∙ c.in_ok-base.ensures.1 in (
       ap length levels ∙ low.0 ∙ length-map items (λ i. i.class),
-      (subst⁻¹ (All (λ l. l ≤ 2)) levels low.1, c.as_slice-3.ensures.value ∙ c.in_ok-places.ensures ∙ ap L2 (first ∙ sym levels)),
+      (subst⁻¹ (AllByRecursion (λ l. l ≤ 2)) levels low.1, c.as_slice-3.ensures.value ∙ c.in_ok-places.ensures ∙ ap L2 (first ∙ sym levels)),
     )
 
 pub returns : goal.returns
