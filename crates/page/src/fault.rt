@@ -1,7 +1,7 @@
 //! Why a page refuses a call.
 
 ghost use Rattle.std.specs.Prelude.{◌≡◌};
-ghost use Rattle.page.specs.Faults.{number as number_of_lem};
+ghost use Rattle.page.specs.Faults.{number as number_of};
 ghost use Rattle.page.specs.declared.fault.PageFault.TheVariants.{Tree};
 
 use tree::fault::Fault;
@@ -26,7 +26,7 @@ impl From<Fault> for PageFault {
 impl PageFault {
     /// The number by which the refusal is told.
     pub fn number(self) -> u8
-        ensures { result ≡ number_of_lem self }
+        ensures { result ≡ number_of self }
     {
         match self {
             PageFault::Lines => 31,

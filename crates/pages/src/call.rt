@@ -1,7 +1,7 @@
 //! What a line can ask for, and why it can be refused.
 
 ghost use Rattle.std.specs.Prelude.{◌≡◌};
-ghost use Rattle.pages.specs.Calls.{number as number_of_lem};
+ghost use Rattle.pages.specs.Calls.{number as number_of};
 ghost use Rattle.pages.specs.declared.call.Refusal.TheVariants.{Page};
 
 use page::fault::PageFault;
@@ -45,7 +45,7 @@ impl From<PageFault> for Refusal {
 impl Refusal {
     /// The number by which the refusal is told.
     pub(crate) fn number(self) -> u8
-        ensures { result ≡ number_of_lem self }
+        ensures { result ≡ number_of self }
     {
         match self {
             Refusal::Command => 21,

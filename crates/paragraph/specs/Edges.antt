@@ -1,4 +1,4 @@
--- An edit as its edges see it: what is needed of the items before it.
+-- An edit as its edges see it: what is needed of the items before it. And an item between its contexts.
 use Rattle.std.specs.Prelude.{ℕ, ◌+◌, ◌-◌, ◌<◌, ◌≤◌, ◌⊎◌, List, length, take, drop, ◌≢◌, slice_index_or}
 use Rattle.paragraph.specs.Steps.{none, left, right, level_in}
 use Rattle.paragraph.specs.Spans.{Given}

@@ -1,4 +1,4 @@
--- The plain paragraph: what it answers to an edit, and which items it then has.
+-- The plain paragraph: what it is, what it answers to an edit, and what it then is.
 use Rattle.std.specs.Prelude.{ℕ, suc, ◌+◌, ◌-◌, cond, List, [], ◌∷◌, length, Some, None, Ok, Err, Option, Result, nat_lt}
 use Rattle.tree.specs.Plain.{accepted, spliced}
 use Rattle.rules.specs.declared.classes.Direction.{Direction}

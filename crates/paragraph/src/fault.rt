@@ -1,7 +1,7 @@
 //! Why a paragraph refuses a call.
 
 ghost use Rattle.std.specs.Prelude.{◌≡◌};
-ghost use Rattle.paragraph.specs.Faults.{number as number_of_lem, position as position_of};
+ghost use Rattle.paragraph.specs.Faults.{number as number_of, position as position_of};
 ghost use Rattle.paragraph.specs.declared.fault.ParagraphFault.TheVariants.{Tree};
 
 use tree::fault::Fault;
@@ -34,7 +34,7 @@ impl From<Fault> for ParagraphFault {
 impl ParagraphFault {
     /// The number by which the refusal is told.
     pub fn number(self) -> u8
-        ensures { result ≡ number_of_lem self }
+        ensures { result ≡ number_of self }
     {
         match self {
             ParagraphFault::Place => 11,

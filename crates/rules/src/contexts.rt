@@ -1,7 +1,7 @@
 // What an item's level depends on: the contexts on both sides of it.
 ghost use Rattle.rules.specs.Claims.{IsLevel};
 ghost use Rattle.rules.specs.Contexts.{
-  after as left_After,
+  after as left_after,
   before as right_before,
   end as right_end,
   level_at,
@@ -110,7 +110,7 @@ impl Left {
 
     // The left context after one item more.
     pub fn after(self, class: Class) -> Left
-        ensures { result ≡ left_After self class }
+        ensures { result ≡ left_after self class }
     {
         let Left { strong, side, kind } = self;
         match class {

@@ -7,7 +7,7 @@ use Rattle.std.specs.List.{slice_get, insert, remove}
 use Rattle.tree.specs.Measures.{Operations, Laws, unit, total_of}
 use Rattle.tree.specs.Plain.{first_over}
 use Rattle.tree.specs.Shapes.{Shape, elements, depth, top_total, Totalled, Sound, shape_of}
-use Rattle.tree.specs.Sides.{Sides, Around}
+use Rattle.tree.specs.Sides.{TotalsBeside, Around}
 use Rattle.tree.specs.Surgery.{part_of}
 use Rattle.tree.specs.Weights.{over, weight_of}
 use Rattle.tree.specs.Changes.{Insertion, Removal, Setting}
@@ -64,8 +64,8 @@ found_is {E} {rows} {h} is_a_set some p x all =
     from_list _ x (∥∥₁_elim some (is_set is_a_set _ _) (λ w. ap (λ s. as_list (slice_get (elements s) p)) (whole_shape w.0 w.2) ∙ ap as_list (all w)))
 
 module _ {E T : Type 0} {k : Operations E T} (laws : Laws k) {rows : List (Row E T)} {h : Heads} (some : Stands rows h) (is_a_set : IsSet T) (p : ℕ) (r : T × E × T) (all : (w : Sound rows h.root h.free h.used h.count) → Around k w.0 p k.unit k.unit r) (t : Totalled k (shape_in rows h)) where
-  both_sides : (w : Sound rows h.root h.free h.used h.count) → Sides k (shape_in rows h) p k.unit k.unit r.0 r.2
-  both_sides w = let s = whole_shape w.0 w.2 in subst (λ x. Sides k x p k.unit k.unit r.0 r.2) (sym s) ((all w).sides (subst (Totalled k) s t) unit unit)
+  both_sides : (w : Sound rows h.root h.free h.used h.count) → TotalsBeside k (shape_in rows h) p k.unit k.unit r.0 r.2
+  both_sides w = let s = whole_shape w.0 w.2 in subst (λ x. TotalsBeside k x p k.unit k.unit r.0 r.2) (sym s) ((all w).sides (subst (Totalled k) s t) unit unit)
 
   pub before_is : r.0 ≡ total_of k (take p (elements (shape_in rows h)))
   before_is = ∥∥₁_elim some (is_a_set _ _) (λ w. (both_sides w).0 ∙ laws.left _ (sum_lawful laws (take p (elements (shape_in rows h)))))

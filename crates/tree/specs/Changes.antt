@@ -1,4 +1,4 @@
--- What an insertion and a removal leave in the rows.
+-- What an insertion, a removal and a change of one element leave in the rows.
 use Rattle.std.specs.Prelude.{◌≡◌, ℕ, List, Some}
 use Rattle.std.specs.List.{slice_get}
 use Rattle.tree.specs.Measures.{Operations}

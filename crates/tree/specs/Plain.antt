@@ -85,6 +85,7 @@ abbrev pub with_sides : {E T : Type 0} → Operations E T → List E → ℕ →
 with_sides k xs p (Ok x) = Ok (total_of k (take p xs), x, total_of k (drop (p + 1) xs))
 with_sides k xs p (Err n) = Err n
 
+-- the element at a place between the totals on either side of it, or a refusal
 abbrev pub around_answer : {E T : Type 0} → Operations E T → List E → ℕ → Result (T × E × T) ℕ
 around_answer k xs p = with_sides k xs p (found (slice_get xs p))
 

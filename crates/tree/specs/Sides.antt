@@ -6,13 +6,13 @@ use Rattle.tree.specs.Shapes.{Shape, size, elements, Totalled, Under}
 use Rattle.tree.specs.declared.row.Row.{Row}
 
 -- the totals on either side of a place, joined to what stands before and behind the part
-abbrev pub Sides : {E T : Type 0} → Operations E T → Shape E T → ℕ → T → T → T → T → Type 0
-Sides k s p before behind l r = (l ≡ k.join before (total_of k (take p (elements s)))) × (r ≡ k.join (total_of k (drop (p + 1) (elements s))) behind)
+abbrev pub TotalsBeside : {E T : Type 0} → Operations E T → Shape E T → ℕ → T → T → T → T → Type 0
+TotalsBeside k s p before behind l r = (l ≡ k.join before (total_of k (take p (elements s)))) × (r ≡ k.join (total_of k (drop (p + 1) (elements s))) behind)
 
 -- the element at a place was found, and what stands on either side of it was summed up
 pub record Around {E T : Type 0} (k : Operations E T) (s : Shape E T) (p : ℕ) (before behind : T) (r : T × E × T) : Type 0 where
   pub here : slice_get (elements s) p ≡ Some r.1
-  pub sides : Totalled k s → Lawful k before → Lawful k behind → Sides k s p before behind r.0 r.2
+  pub sides : Totalled k s → Lawful k before → Lawful k behind → TotalsBeside k s p before behind r.0 r.2
 
 -- on the way down to a place: it is a place of a part below, and whatever is found around it there is what is found around it in the whole
 abbrev pub Descends : {E T : Type 0} → Operations E T → List (Row E T) → Shape E T → ℕ → Option ℕ → ℕ → T → T → Type 0

@@ -1,4 +1,4 @@
-//! What stands below a link: its size, height and total, and the element at a place.
+//! Rows and entries by index, and what stands below a link: its size, height and total, and the element at a place.
 
 ghost use Rattle.std.specs.Prelude.{◌≡◌, ℕ, ◌<◌, length, Some, slice_set};
 ghost use Rattle.std.specs.List.{slice_get};

@@ -1,7 +1,7 @@
 //! Why a tree refuses a call.
 
 ghost use Rattle.std.specs.Prelude.{◌≡◌};
-ghost use Rattle.tree.specs.Plain.{number as number_of_lem};
+ghost use Rattle.tree.specs.Plain.{number as number_of};
 
 /// A refusal; the call that got it left everything as it was.
 #[derive(Clone, Copy, PartialEq, Eq, Debug)]
@@ -19,7 +19,7 @@ pub enum Fault {
 impl Fault {
     /// The number by which the refusal is told.
     pub fn number(self) -> u8
-        ensures { result ≡ number_of_lem self }
+        ensures { result ≡ number_of self }
     {
         match self {
             Fault::Place => 1,

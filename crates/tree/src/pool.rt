@@ -1,4 +1,4 @@
-//! Rows taken for an element and given up again.
+//! Rows taken for an element and given up again, an element changed, and all rows filled anew.
 
 ghost use Rattle.std.specs.Prelude.{◌≡◌, ℕ, ◌+◌, ◌<◌, ◌≤◌, List, length};
 ghost use Rattle.tree.specs.Shapes.{one, Pool, Sound};
