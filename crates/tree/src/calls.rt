@@ -3,14 +3,15 @@
 ghost use Rattle.std.specs.Prelude.{◌≡◌, ℕ, ◌-◌, ◌^◌, ◌≤◌, min, [], length, is_ok, IfOk, Ok, Err, nat_lt};
 ghost use Rattle.std.specs.List.{slice_get};
 ghost use Rattle.tree.specs.Plain.{numbered, Untouched, found, with_depth, insert_answer, after_insert, remove_answer, after_remove, replace_answer, after_replace, total_answer, seek_answer, around_answer, copy_answer, copied, fits};
-ghost use Rattle.tree.specs.Trees.{elements_of, capacity_of, depth_in, TotalsRight, least, places_at};
+ghost use Rattle.tree.specs.Trees.{elements_of, capacity_of, depth_in, least, places_at};
 
 use crate::around::around_below;
 use crate::below::{part_of, read_below};
 use crate::copy::copy_below;
 use crate::fault::Fault;
 use crate::measure::Measure;
-use crate::row::{Heads, Row, Rows};
+use crate::pool::{insert_in, remove_in};
+use crate::row::{Heads, Row};
 use crate::seek::seek_below;
 use crate::total::total_below;
 use crate::tree::Tree;
@@ -22,11 +23,10 @@ impl<'a, E: Copy, T: Measure<E>> Tree<'a, E, T> {
     /// An empty tree, whatever the rows held.
     pub fn open(rows: &'a mut [Row<E, T>]) -> Self
         ensures elements { elements_of result ≡ [] }
-        ensures totals { TotalsRight T.ops result }
         ensures capacity { capacity_of result ≡ min 4096 (length rows.old) }
     {
         Tree {
-            rows: Rows { all: rows },
+            rows,
             heads: Heads::EMPTY,
         }
     }
@@ -34,7 +34,6 @@ impl<'a, E: Copy, T: Measure<E>> Tree<'a, E, T> {
     /// Drops every element; the rows can all be used again.
     pub fn clear(&mut self)
         ensures elements { elements_of self.new ≡ [] }
-        ensures totals { TotalsRight T.ops self.new }
         ensures capacity { capacity_of self.new ≡ capacity_of self.old }
     {
         self.heads = Heads::EMPTY;
@@ -52,7 +51,7 @@ impl<'a, E: Copy, T: Measure<E>> Tree<'a, E, T> {
     pub fn capacity(&self) -> usize
         ensures { result ≡ capacity_of self.now }
     {
-        self.rows.all.len().min(LIMIT)
+        self.rows.len().min(LIMIT)
     }
 
     /// Puts an element before a place.
@@ -60,7 +59,6 @@ impl<'a, E: Copy, T: Measure<E>> Tree<'a, E, T> {
         ensures answer { numbered result ≡ insert_answer (capacity_of self.old) (elements_of self.old) place }
         ensures elements { elements_of self.new ≡ after_insert (capacity_of self.old) (elements_of self.old) place element }
         ensures refused { Untouched result self.old self.new }
-        ensures totals { TotalsRight T.ops self.old → TotalsRight T.ops self.new }
         ensures capacity { capacity_of self.new ≡ capacity_of self.old }
     {
         let heads = self.heads;
@@ -70,7 +68,7 @@ impl<'a, E: Copy, T: Measure<E>> Tree<'a, E, T> {
         if heads.count as usize >= self.capacity() {
             return Err(Fault::Full);
         }
-        self.heads = self.rows.insert(heads, place as u16, element);
+        self.heads = insert_in(self.rows, heads, place as u16, element);
         Ok(())
     }
 
@@ -79,14 +77,13 @@ impl<'a, E: Copy, T: Measure<E>> Tree<'a, E, T> {
         ensures answer { numbered result ≡ remove_answer (elements_of self.old) place }
         ensures elements { elements_of self.new ≡ after_remove (elements_of self.old) place }
         ensures refused { Untouched result self.old self.new }
-        ensures totals { TotalsRight T.ops self.old → TotalsRight T.ops self.new }
         ensures capacity { capacity_of self.new ≡ capacity_of self.old }
     {
         let heads = self.heads;
         if place >= heads.count as usize {
             return Err(Fault::Place);
         }
-        let (heads, element) = self.rows.remove(heads, place as u16);
+        let (heads, element) = remove_in(self.rows, heads, place as u16);
         self.heads = heads;
         Ok(element)
     }
@@ -100,18 +97,18 @@ impl<'a, E: Copy, T: Measure<E>> Tree<'a, E, T> {
         if place >= self.heads.count as usize {
             return Err(Fault::Place);
         }
-        Ok(read_below(self.rows.all, self.heads.root, place as u16))
+        Ok(read_below(self.rows, self.heads.root, place as u16))
     }
 
     /// The element at a place, between the total of all elements before it and the total of all behind it.
     pub fn around(&self, place: usize) -> Result<(T, E, T), Fault>
-        ensures answer { TotalsRight T.ops self.now → numbered result ≡ around_answer T.ops (elements_of self.now) place }
+        ensures answer { numbered result ≡ around_answer T.ops (elements_of self.now) place }
         ensures refusal { is_ok result ≡ nat_lt place (length (elements_of self.now)) }
     {
         if place >= self.heads.count as usize {
             return Err(Fault::Place);
         }
-        Ok(around_below(self.rows.all, self.heads.root, place as u16))
+        Ok(around_below(self.rows, self.heads.root, place as u16))
     }
 
     /// Copies the elements from a place on into a buffer, as many as are there and fit, and answers how many. Further entries stay.
@@ -125,7 +122,7 @@ impl<'a, E: Copy, T: Measure<E>> Tree<'a, E, T> {
         }
         let end = first + out.len().min(count - first);
         copy_below(
-            self.rows.all,
+            self.rows,
             self.heads.root,
             first as u16,
             end as u16,
@@ -137,7 +134,7 @@ impl<'a, E: Copy, T: Measure<E>> Tree<'a, E, T> {
 
     /// The total of a stretch: the totals of its elements, joined first to last.
     pub fn total(&self, first: usize, end: usize) -> Result<T, Fault>
-        ensures answer { TotalsRight T.ops self.now → numbered result ≡ total_answer T.ops (elements_of self.now) first end }
+        ensures answer { numbered result ≡ total_answer T.ops (elements_of self.now) first end }
         ensures refusal { is_ok result ≡ fits (elements_of self.now) first end }
     {
         if first > end {
@@ -146,17 +143,17 @@ impl<'a, E: Copy, T: Measure<E>> Tree<'a, E, T> {
         if end > self.heads.count as usize {
             return Err(Fault::Stretch);
         }
-        Ok(total_below(self.rows.all, self.heads.root, first as u16, end as u16))
+        Ok(total_below(self.rows, self.heads.root, first as u16, end as u16))
     }
 
     /// The first place whose element, with all before it, weighs more than `weight`.
     pub fn seek(&self, weight: u32) -> Result<usize, Fault>
-        ensures { TotalsRight T.ops self.now → numbered result ≡ seek_answer T.ops (elements_of self.now) weight }
+        ensures { numbered result ≡ seek_answer T.ops (elements_of self.now) weight }
     {
-        let whole = part_of(self.rows.all, self.heads.root);
+        let whole = part_of(self.rows, self.heads.root);
         if whole.total.weight() <= weight {
             return Err(Fault::Weight);
         }
-        Ok(seek_below(self.rows.all, self.heads.root, weight) as usize)
+        Ok(seek_below(self.rows, self.heads.root, weight) as usize)
     }
 }

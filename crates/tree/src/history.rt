@@ -2,7 +2,7 @@
 
 ghost use Rattle.std.specs.Prelude.{◌≡◌, ◌≤◌, map, length, take, drop, OnOk};
 ghost use Rattle.tree.specs.Plain.{numbered, Untouched};
-ghost use Rattle.tree.specs.Trees.{elements_of, capacity_of, depth_in, TotalsRight};
+ghost use Rattle.tree.specs.Trees.{elements_of, capacity_of, depth_in};
 ghost use Rattle.tree.specs.History.{change_answer, after_change, after_all, answers_all, question_answer, short_list, History};
 
 use crate::fault::Fault;
@@ -25,34 +25,33 @@ impl<E: Copy, T: Measure<E>> Tree<'_, E, T> {
         ensures answer { numbered result ≡ change_answer (capacity_of self.old) (elements_of self.old) change }
         ensures elements { elements_of self.new ≡ after_change (capacity_of self.old) (elements_of self.old) change }
         ensures refused { Untouched result self.old self.new }
-        ensures totals { TotalsRight T.ops self.old → TotalsRight T.ops self.new }
         ensures capacity { capacity_of self.new ≡ capacity_of self.old }
     {
         match change {
-            Change::Insert { place, element } => match self.insert(place, element) {
-                Ok(()) => Ok(None),
-                Err(fault) => Err(fault),
-            },
-            Change::Remove { place } => match self.remove(place) {
-                Ok(element) => Ok(Some(element)),
-                Err(fault) => Err(fault),
-            },
+            Change::Insert { place, element } => {
+                self.insert(place, element)?;
+                Ok(None)
+            }
+            Change::Remove { place } => {
+                let element = self.remove(place)?;
+                Ok(Some(element))
+            }
         }
     }
 
     /// Answers a question.
     pub fn ask(&self, question: Question) -> Result<Told<E, T>, Fault>
-        ensures { TotalsRight T.ops self.now → numbered result ≡ question_answer T.ops (elements_of self.now) (depth_in self.now) question }
+        ensures { numbered result ≡ question_answer T.ops (elements_of self.now) (depth_in self.now) question }
     {
         match question {
-            Question::Read { place } => match self.read(place) {
-                Ok((element, depth)) => Ok(Told::Element(element, depth)),
-                Err(fault) => Err(fault),
-            },
-            Question::Total { first, end } => match self.total(first, end) {
-                Ok(total) => Ok(Told::Sum(total)),
-                Err(fault) => Err(fault),
-            },
+            Question::Read { place } => {
+                let (element, depth) = self.read(place)?;
+                Ok(Told::Element(element, depth))
+            }
+            Question::Total { first, end } => {
+                let total = self.total(first, end)?;
+                Ok(Told::Sum(total))
+            }
         }
     }
 
@@ -86,7 +85,6 @@ impl<E: Copy, T: Measure<E>> Tree<'_, E, T> {
         ensures elements { elements_of self.new ≡ after_all (capacity_of self.old) (elements_of self.old) changes.now }
         ensures answered { map numbered (take (length changes.now) outcomes.new) ≡ answers_all (capacity_of self.old) (elements_of self.old) changes.now }
         ensures spare { drop (length changes.now) outcomes.new ≡ drop (length changes.now) outcomes.old }
-        ensures totals { TotalsRight T.ops self.old → TotalsRight T.ops self.new }
     {
         for (i, change) in changes.iter().enumerate() {
             outcomes[i] = self.change(*change);
@@ -95,7 +93,7 @@ impl<E: Copy, T: Measure<E>> Tree<'_, E, T> {
 
     fn ask_all(&self, questions: &[Question], answers: &mut [Result<Told<E, T>, Fault>])
         requires { length questions.now ≤ length answers.old }
-        ensures told { TotalsRight T.ops self.now → map numbered (take (length questions.now) answers.new) ≡ map (question_answer T.ops (elements_of self.now) (depth_in self.now)) questions.now }
+        ensures told { map numbered (take (length questions.now) answers.new) ≡ map (question_answer T.ops (elements_of self.now) (depth_in self.now)) questions.now }
         ensures spare { drop (length questions.now) answers.new ≡ drop (length questions.now) answers.old }
     {
         for (i, question) in questions.iter().enumerate() {

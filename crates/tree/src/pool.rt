@@ -1,16 +1,14 @@
-//! Rows taken for an element and given up again, an element changed, and all rows filled anew.
+//! Rows taken for an element and given up again, and an element changed.
 
 ghost use Rattle.std.specs.Prelude.{◌≡◌, ℕ, ◌+◌, ◌<◌, ◌≤◌, List, length};
 ghost use Rattle.tree.specs.Shapes.{one, Pool, Sound};
-ghost use Rattle.tree.specs.Building.{Filling};
 ghost use Rattle.tree.specs.Changes.{Insertion, Removal, Setting};
 
 use crate::below::{row_at, write_row};
-use crate::build::fill_in;
 use crate::insert::insert_below;
 use crate::measure::Measure;
 use crate::remove::remove_below;
-use crate::row::{Heads, Row, Rows};
+use crate::row::{Heads, Row};
 use crate::set::set_below;
 
 /// A row that was taken, and what is left to take.
@@ -104,44 +102,4 @@ pub(crate) fn set_in<E: Copy, T: Measure<E>>(
     ensures { Setting T.ops rows.old rows.new heads place element }
 {
     set_below(rows, heads.root, place, element);
-}
-
-impl<E: Copy, T: Measure<E>> Rows<'_, E, T> {
-    pub(crate) fn insert(&mut self, heads: Heads, place: u16, element: E) -> Heads
-        requires sound { ∥ (Sound self.old.all.now heads.root heads.free heads.used heads.count) ∥₁ }
-        requires within { place ≤ heads.count }
-        requires room { heads.count < 4096 }
-        requires space { heads.count < length self.old.all.now }
-        ensures whole { Insertion T.ops self.old.all.now self.new.all.now heads result place element }
-        ensures long { length self.new.all.now ≡ length self.old.all.now }
-    {
-        insert_in(self.all, heads, place, element)
-    }
-
-    pub(crate) fn remove(&mut self, heads: Heads, place: u16) -> (Heads, E)
-        requires sound { ∥ (Sound self.old.all.now heads.root heads.free heads.used heads.count) ∥₁ }
-        requires within { place < heads.count }
-        ensures whole { Removal T.ops self.old.all.now self.new.all.now heads result.0 place result.1 }
-        ensures long { length self.new.all.now ≡ length self.old.all.now }
-    {
-        remove_in(self.all, heads, place)
-    }
-
-    pub(crate) fn set(&mut self, heads: Heads, place: u16, element: E)
-        requires sound { ∥ (Sound self.old.all.now heads.root heads.free heads.used heads.count) ∥₁ }
-        requires within { place < heads.count }
-        ensures whole { Setting T.ops self.old.all.now self.new.all.now heads place element }
-        ensures long { length self.new.all.now ≡ length self.old.all.now }
-    {
-        set_in(self.all, heads, place, element);
-    }
-
-    pub(crate) fn fill(&mut self, elements: &[E]) -> Heads
-        requires space { length elements.now ≤ length self.old.all.now }
-        requires room { length elements.now ≤ 4096 }
-        ensures whole { Filling T.ops self.new.all.now result elements.now }
-        ensures long { length self.new.all.now ≡ length self.old.all.now }
-    {
-        fill_in(self.all, elements)
-    }
 }

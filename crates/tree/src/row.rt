@@ -39,12 +39,6 @@ pub(crate) struct Part<T> {
     pub(crate) total: T,
 }
 
-/// The rows that a caller lent, as a struct of their own, so that a method can lend them on.
-#[derive(Drop)]
-pub(crate) struct Rows<'a, E, T> {
-    pub(crate) all: &'a mut [Row<E, T>],
-}
-
 /// What is not in the rows: the root, the rows given up, how many rows were ever used, and how many are in use.
 #[derive(Clone, Copy)]
 pub(crate) struct Heads {

@@ -8,7 +8,7 @@ use Rattle.tree.proofs.Histories.{mapped_more, spare_more}
 use Rattle.tree.proofs.tree.Tree.ask_all.Goals as goal
 
 pub loop-i-init : goal.loop-i-init
-loop-i-init g c = ((λ _. refl), refl)
+loop-i-init g c = (refl, refl)
 
 pub loop-i-preserved : goal.loop-i-preserved
 loop-i-preserved g c =
@@ -19,9 +19,8 @@ loop-i-preserved g c =
     let fits = c.requires in
     let long = c.loop-i.auto.answers in
     let pushed = take_more questions i (Read 0) c.loop-i-test.true in (
-      (λ t.
-          mapped_more numbered c.loop-i.answers i c.ask.result (omega arith) (inv.0 t) ∙ ap (λ a. map answer (take i questions) ++ (a ∷ [])) (c.ask.ensures t)
-          ∙ sym (ap (map answer) pushed ∙ map-append answer (take i questions) (get_or questions i (Read 0) ∷ []))),
+      mapped_more numbered c.loop-i.answers i c.ask.result (omega arith) inv.0 ∙ ap (λ a. map answer (take i questions) ++ (a ∷ [])) c.ask.ensures
+          ∙ sym (ap (map answer) pushed ∙ map-append answer (take i questions) (get_or questions i (Read 0) ∷ [])),
       spare_more c.loop-i.answers c.args.answers.now i c.ask.result inv.1,
     )
 
@@ -32,6 +31,6 @@ returns g c =
     let answer = question_answer g.T.Measure.ops (elements_of c.args.self.now) (depth_in c.args.self.now) in
     let all : c.loop-i.i ≡ length questions = omega (arith, c.loop-i.auto.i-end) in
     record {
-      told = λ t. ap (λ n. map numbered (take n c.loop-i.answers)) (sym all) ∙ inv.0 t ∙ ap (map answer) (take_all c.loop-i.i questions c.loop-i-test.false);
+      told = ap (λ n. map numbered (take n c.loop-i.answers)) (sym all) ∙ inv.0 ∙ ap (map answer) (take_all c.loop-i.i questions c.loop-i-test.false);
       spare = ap (λ n. drop n c.loop-i.answers) (sym all) ∙ inv.1 ∙ ap (λ n. drop n c.args.answers.now) all;
     }

@@ -7,7 +7,7 @@ use Rattle.tree.proofs.Histories.{after_more, answers_more, mapped_more, spare_m
 use Rattle.tree.proofs.tree.Tree.change_all.Goals as goal
 
 pub loop-i-init : goal.loop-i-init
-loop-i-init g c = (refl, refl, refl, (λ t. t), refl)
+loop-i-init g c = (refl, refl, refl, refl)
 
 pub loop-i-preserved : goal.loop-i-preserved
 loop-i-preserved g c =
@@ -22,13 +22,12 @@ loop-i-preserved g c =
     let pushed : take (i + 1) changes ≡ cs ++ (x ∷ []) = take_more changes i x c.loop-i-test.true ∙ ap (λ y. cs ++ (y ∷ [])) (sym c.index-changes-i.is) in
     let fits = c.requires in
     let long = c.loop-i.auto.outcomes in (
-      c.change.ensures.elements ∙ ap (λ r. after_change r here x) inv.4 ∙ ap (λ l. after_change room l x) inv.0 ∙ sym (ap (after_all room xs) pushed ∙ after_more room xs cs x),
+      c.change.ensures.elements ∙ ap (λ r. after_change r here x) inv.3 ∙ ap (λ l. after_change room l x) inv.0 ∙ sym (ap (after_all room xs) pushed ∙ after_more room xs cs x),
       mapped_more numbered c.loop-i.outcomes i c.change.result (omega arith) inv.1
-          ∙ ap (λ a. answers_all room xs cs ++ (a ∷ [])) (c.change.ensures.answer ∙ ap (λ r. change_answer r here x) inv.4 ∙ ap (λ l. change_answer room l x) inv.0)
+          ∙ ap (λ a. answers_all room xs cs ++ (a ∷ [])) (c.change.ensures.answer ∙ ap (λ r. change_answer r here x) inv.3 ∙ ap (λ l. change_answer room l x) inv.0)
           ∙ sym (ap (answers_all room xs) pushed ∙ answers_more room xs cs x),
       spare_more c.loop-i.outcomes c.args.outcomes.now i c.change.result inv.2,
-      (λ t. c.change.ensures.totals (inv.3 t)),
-      c.change.ensures.capacity ∙ inv.4,
+      c.change.ensures.capacity ∙ inv.3,
     )
 
 pub returns : goal.returns
@@ -43,5 +42,4 @@ returns g c =
       elements = inv.0 ∙ ap (after_all room xs) whole;
       answered = ap (λ n. map numbered (take n c.loop-i.outcomes)) (sym all) ∙ inv.1 ∙ ap (answers_all room xs) whole;
       spare = ap (λ n. drop n c.loop-i.outcomes) (sym all) ∙ inv.2 ∙ ap (λ n. drop n c.args.outcomes.now) all;
-      totals = inv.3;
     }

@@ -1,6 +1,6 @@
 use Rattle.std.proofs.Common.{refl, ◌∙◌, arith}
 use base.Stored.{Coded-set}
-use Rattle.tree.specs.Trees.{shape, elements_of, capacity_of, TotalsRight}
+use Rattle.tree.specs.Trees.{shape, elements_of, capacity_of}
 use Rattle.tree.proofs.Facts.{count_is, sound_removed, elements_removed, totals_removed, found_removed}
 use Rattle.tree.proofs.Plains.{remove_no_place, remove_found}
 use Rattle.tree.proofs.tree.Tree.remove.Goals as goal
@@ -11,22 +11,27 @@ returns-then-place-heads g c =
     let tree = c.args.self.now in
     let n = count_is {h = tree.heads} tree.sound in
     let a = remove_no_place (elements_of tree) c.args.place (omega arith) in
-    record { answer = a.0; elements = a.1; refused = refl; totals = λ h. h; capacity = refl }
+    record { answer = a.0; elements = a.1; refused = refl; capacity = refl }
 
 pub invariant_of-self : goal.invariant_of-self
-invariant_of-self g c = record { sound = sound_removed g.T.Measure.ops {was = c.args.self.now.heads} c.args.self.now.sound c.remove-element.ensures.whole }
+invariant_of-self g c = 
+    let tree = c.args.self.now in
+    let k = g.T.Measure.ops in
+    record {
+      sound = sound_removed k {was = tree.heads} tree.sound c.remove_in-element.ensures;
+      totals = totals_removed k {was = tree.heads} tree.sound (Coded-set g.row.T.coded) c.remove_in-element.ensures tree.totals;
+    }
 
 pub returns : goal.returns
-unfolding shape elements_of capacity_of TotalsRight
+unfolding shape elements_of capacity_of
 returns g c =
     let tree = c.args.self.now in
     let k = g.T.Measure.ops in
-    let t = c.remove-element.ensures.whole in
-    let a = remove_found (elements_of tree) c.args.place c.remove-element.result.1 (found_removed k {was = tree.heads} tree.sound (Coded-set g.row.E.coded) t) in
+    let t = c.remove_in-element.ensures in
+    let a = remove_found (elements_of tree) c.args.place c.remove_in-element.result.1 (found_removed k {was = tree.heads} tree.sound (Coded-set g.row.E.coded) t) in
     record {
       answer = a.0;
       elements = elements_removed k {was = tree.heads} tree.sound (Coded-set g.row.E.coded) (omega arith) t ∙ a.1;
       refused = tt;
-      totals = totals_removed k {was = tree.heads} tree.sound (Coded-set g.row.T.coded) t;
-      capacity = let l = c.remove-element.ensures.long in omega arith;
+      capacity = let l = c.remove_in-element.auto.rows in omega arith;
     }

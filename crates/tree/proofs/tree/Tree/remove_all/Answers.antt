@@ -5,7 +5,7 @@ use Rattle.tree.proofs.Splices.{splice_none, remove_more}
 use Rattle.tree.proofs.tree.Tree.remove_all.Goals as goal
 
 pub loop-gone-init : goal.loop-gone-init
-loop-gone-init g c = (splice_none (elements_of c.args.self.now) c.args.first, (λ t. t), refl)
+loop-gone-init g c = (splice_none (elements_of c.args.self.now) c.args.first, refl)
 
 pub loop-gone-preserved : goal.loop-gone-preserved
 loop-gone-preserved g c =
@@ -14,8 +14,7 @@ loop-gone-preserved g c =
     let low = c.loop-gone.auto._gone in
     let within = c.requires.within in (
       c.remove.ensures.elements ∙ ap (λ ys. after_remove ys c.args.first) c.loop-gone.invariant.0 ∙ remove_more xs c.args.first n (omega arith) (omega arith),
-      (λ t. c.remove.ensures.totals (c.loop-gone.invariant.1 t)),
-      c.remove.ensures.capacity ∙ c.loop-gone.invariant.2,
+      c.remove.ensures.capacity ∙ c.loop-gone.invariant.1,
     )
 
 pub returns : goal.returns
@@ -24,4 +23,4 @@ returns g c =
     let low = c.loop-gone.auto._gone in
     let high = c.loop-gone.auto._gone-end in
     let all : c.loop-gone._gone ≡ c.args.end = omega arith in
-    record { elements = c.loop-gone.invariant.0 ∙ ap (λ n. spliced (elements_of c.args.self.now) c.args.first n []) all; totals = c.loop-gone.invariant.1; capacity = c.loop-gone.invariant.2 }
+    record { elements = c.loop-gone.invariant.0 ∙ ap (λ n. spliced (elements_of c.args.self.now) c.args.first n []) all; capacity = c.loop-gone.invariant.1 }

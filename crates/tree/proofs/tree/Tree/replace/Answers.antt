@@ -32,7 +32,6 @@ returns-then-kept-eq0 g c =
       answer = a.0;
       elements = c.fill.ensures.elements ∙ splice_all xs ys c.args.first c.args.end (omega arith) (omega arith) ∙ a.1;
       refused = tt;
-      totals = λ _. c.fill.ensures.totals;
       capacity = c.fill.ensures.capacity;
     }
 
@@ -48,6 +47,5 @@ returns g c =
       answer = a.0;
       elements = c.splice.ensures.elements ∙ a.1;
       refused = tt;
-      totals = c.splice.ensures.totals;
       capacity = c.splice.ensures.capacity;
     }

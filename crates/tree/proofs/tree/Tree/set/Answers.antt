@@ -1,6 +1,6 @@
 use Rattle.std.proofs.Common.{arith}
 use base.Stored.{Coded-set}
-use Rattle.tree.specs.Trees.{shape, elements_of, capacity_of, TotalsRight}
+use Rattle.tree.specs.Trees.{shape, elements_of, capacity_of}
 use Rattle.tree.proofs.Facts.{count_is, count_fits, sound_set, elements_set, totals_set}
 use Rattle.tree.proofs.tree.Tree.set.Goals as goal
 
@@ -13,25 +13,30 @@ overflow_cast-place g c =
     let h = c.requires in
     omega arith
 
-pub set-requires : goal.set-requires
+pub set_in-requires : goal.set_in-requires
 unfolding shape elements_of
-set-requires g c =
+set_in-requires g c =
     let tree = c.args.self.now in
     let n = count_is {h = tree.heads} tree.sound in
     let h = c.requires in
     record { sound = tree.sound; within = omega arith }
 
 pub invariant_of-self : goal.invariant_of-self
-invariant_of-self g c = record { sound = sound_set g.T.Measure.ops {h = c.args.self.now.heads} c.args.self.now.sound c.set.ensures.whole }
+invariant_of-self g c = 
+    let tree = c.args.self.now in
+    let k = g.T.Measure.ops in
+    record {
+      sound = sound_set k {h = tree.heads} tree.sound c.set_in.ensures;
+      totals = totals_set k {h = tree.heads} tree.sound (Coded-set g.row.T.coded) c.set_in.ensures tree.totals;
+    }
 
 pub returns : goal.returns
-unfolding shape elements_of capacity_of TotalsRight
+unfolding shape elements_of capacity_of
 returns g c =
     let tree = c.args.self.now in
     let k = g.T.Measure.ops in
-    let t = c.set.ensures.whole in
+    let t = c.set_in.ensures in
     record {
       elements = elements_set k {h = tree.heads} tree.sound (Coded-set g.row.E.coded) t;
-      totals = totals_set k {h = tree.heads} tree.sound (Coded-set g.row.T.coded) t;
-      capacity = let l = c.set.ensures.long in omega arith;
+      capacity = let l = c.set_in.auto.rows in omega arith;
     }
