@@ -89,10 +89,6 @@ with_sides k xs p (Err n) = Err n
 abbrev pub around_answer : {E T : Type 0} → Operations E T → List E → ℕ → Result (T × E × T) ℕ
 around_answer k xs p = with_sides k xs p (found (slice_get xs p))
 
--- a list with others written over it from an entry on
-abbrev pub pasted : {E : Type 0} → List E → ℕ → List E → List E
-pasted out at xs = take at out ++ (xs ++ drop (at + length xs) out)
-
 -- how many elements from a place on are copied to so many entries
 abbrev pub copy_answer : {E : Type 0} → List E → ℕ → ℕ → Result ℕ ℕ
 copy_answer xs first room = cond (nat_lt (length xs) first) (Err 1) (Ok (min room (length xs - first)))

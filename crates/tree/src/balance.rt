@@ -4,125 +4,184 @@ ghost use Rattle.std.specs.Prelude.{◌≡◌, ℕ, ◌+◌, ◌≤◌, Some};
 ghost use Rattle.tree.specs.Shapes.{Shape, size, Under, row_of, top_total};
 ghost use Rattle.tree.specs.Surgery.{Split, Becomes, rotate_right, rotate_left, rebalanced, joined};
 
-use crate::below::{height_of, part_of, row_at, write_row};
+use crate::below::{part_of, row_at, write_row};
 use crate::measure::Measure;
 use crate::row::Row;
 
-pub(crate) fn row_over<E: Copy, T: Measure<E>>(
-    rows: &[Row<E, T>],
-    left: Option<u16>,
-    element: E,
-    right: Option<u16>,
-) -> Row<E, T>
-    requires { ∥ ((a : Shape E T) × (b : Shape E T) × Under rows.now left a × Under rows.now right b × (size a + 1 + size b ≤ 4096)) ∥₁ }
-    ensures { (a b : Shape E T) → Under rows.now left a → Under rows.now right b → result ≡ row_of a element (T.ops.join (T.ops.join (top_total T.ops a) (T.ops.of element)) (top_total T.ops b)) b }
+/// A row with the height, count and total of what stands on either side of it now.
+pub(crate) fn row_over<E: Copy, T: Measure<E>>(rows: &[Row<E, T>], row: Row<E, T>) -> Row<E, T>
+    requires { ∥ ((a : Shape E T) × (b : Shape E T) × Under rows.now row.left a × Under rows.now row.right b × (size a + 1 + size b ≤ 4096)) ∥₁ }
+    ensures { (a b : Shape E T) → Under rows.now row.left a → Under rows.now row.right b → result ≡ row_of a row.element (T.ops.join (T.ops.join (top_total T.ops a) (T.ops.of row.element)) (top_total T.ops b)) b }
 {
-    let before = part_of(rows, left);
-    let after = part_of(rows, right);
+    let before = part_of(rows, row.left);
+    let after = part_of(rows, row.right);
     Row {
-        element,
-        left,
-        right,
         height: 1 + before.height.max(after.height),
         count: before.count + 1 + after.count,
-        total: before.total.join(T::of(element)).join(after.total),
+        total: before.total.join(T::of(row.element)).join(after.total),
+        ..row
     }
 }
 
-pub(crate) fn write_node<E: Copy, T: Measure<E>>(
-    rows: &mut [Row<E, T>],
-    left: Option<u16>,
-    i: u16,
-    element: E,
-    right: Option<u16>,
-)
-    requires { ∥ ((a : Shape E T) × (b : Shape E T) × Split rows.old left i right a b) ∥₁ }
-    ensures { (a b : Shape E T) → Split rows.old left i right a b → Becomes rows.old rows.new (Some i) (joined T.ops a i element b) }
+/// Writes a row over its place in the table. Of the one given, only its element and its links count.
+pub(crate) fn write_node<E: Copy, T: Measure<E>>(rows: &mut [Row<E, T>], i: u16, row: Row<E, T>)
+    requires { ∥ ((a : Shape E T) × (b : Shape E T) × Split rows.old row.left i row.right a b) ∥₁ }
+    ensures { (a b : Shape E T) → Split rows.old row.left i row.right a b → Becomes rows.old rows.new (Some i) (joined T.ops a i row.element b) }
 {
-    let row = row_over(rows, left, element, right);
+    let row = row_over(rows, row);
     write_row(rows, i, row);
 }
 
+/// Turns a row and what is too high on its left to the right, once or twice; the index of the row on top.
 pub(crate) fn rotate_right<E: Copy, T: Measure<E>>(
     rows: &mut [Row<E, T>],
-    left: Option<u16>,
     i: u16,
-    element: E,
-    right: Option<u16>,
+    row: Row<E, T>,
 ) -> u16
-    requires { ∥ ((a : Shape E T) × (b : Shape E T) × Split rows.old left i right a b) ∥₁ }
-    ensures { (a b : Shape E T) → Split rows.old left i right a b → Becomes rows.old rows.new (Some result) (rotate_right T.ops a i element b) }
+    requires { ∥ ((a : Shape E T) × (b : Shape E T) × Split rows.old row.left i row.right a b) ∥₁ }
+    ensures { (a b : Shape E T) → Split rows.old row.left i row.right a b → Becomes rows.old rows.new (Some result) (rotate_right T.ops a i row.element b) }
 {
-    let Some(l) = left else {
-        write_node(rows, left, i, element, right);
+    let Some(l) = row.left else {
+        write_node(rows, i, row);
         return i;
     };
-    let row = row_at(rows, l);
-    if height_of(rows, row.right) <= height_of(rows, row.left) {
-        write_node(rows, row.right, i, element, right);
-        write_node(rows, row.left, l, row.element, Some(i));
+    let below = row_at(rows, l);
+    if part_of(rows, below.right).height <= part_of(rows, below.left).height {
+        write_node(
+            rows,
+            i,
+            Row {
+                left: below.right,
+                ..row
+            },
+        );
+        write_node(
+            rows,
+            l,
+            Row {
+                right: Some(i),
+                ..below
+            },
+        );
         return l;
     }
-    let Some(m) = row.right else {
-        write_node(rows, left, i, element, right);
+    let Some(m) = below.right else {
+        write_node(rows, i, row);
         return i;
     };
-    let mid = row_at(rows, m);
-    write_node(rows, row.left, l, row.element, mid.left);
-    write_node(rows, mid.right, i, element, right);
-    write_node(rows, Some(l), m, mid.element, Some(i));
+    let middle = row_at(rows, m);
+    write_node(
+        rows,
+        l,
+        Row {
+            right: middle.left,
+            ..below
+        },
+    );
+    write_node(
+        rows,
+        i,
+        Row {
+            left: middle.right,
+            ..row
+        },
+    );
+    write_node(
+        rows,
+        m,
+        Row {
+            left: Some(l),
+            right: Some(i),
+            ..middle
+        },
+    );
     m
 }
 
+// Kept: the mirror image of `rotate_right`; one function over a side would ask of each row which part is near and which is far, and be no plainer.
+/// The same on the right, to the left.
 pub(crate) fn rotate_left<E: Copy, T: Measure<E>>(
     rows: &mut [Row<E, T>],
-    left: Option<u16>,
     i: u16,
-    element: E,
-    right: Option<u16>,
+    row: Row<E, T>,
 ) -> u16
-    requires { ∥ ((a : Shape E T) × (b : Shape E T) × Split rows.old left i right a b) ∥₁ }
-    ensures { (a b : Shape E T) → Split rows.old left i right a b → Becomes rows.old rows.new (Some result) (rotate_left T.ops a i element b) }
+    requires { ∥ ((a : Shape E T) × (b : Shape E T) × Split rows.old row.left i row.right a b) ∥₁ }
+    ensures { (a b : Shape E T) → Split rows.old row.left i row.right a b → Becomes rows.old rows.new (Some result) (rotate_left T.ops a i row.element b) }
 {
-    let Some(l) = right else {
-        write_node(rows, left, i, element, right);
+    let Some(l) = row.right else {
+        write_node(rows, i, row);
         return i;
     };
-    let row = row_at(rows, l);
-    if height_of(rows, row.left) <= height_of(rows, row.right) {
-        write_node(rows, left, i, element, row.left);
-        write_node(rows, Some(i), l, row.element, row.right);
+    let below = row_at(rows, l);
+    if part_of(rows, below.left).height <= part_of(rows, below.right).height {
+        write_node(
+            rows,
+            i,
+            Row {
+                right: below.left,
+                ..row
+            },
+        );
+        write_node(
+            rows,
+            l,
+            Row {
+                left: Some(i),
+                ..below
+            },
+        );
         return l;
     }
-    let Some(m) = row.left else {
-        write_node(rows, left, i, element, right);
+    let Some(m) = below.left else {
+        write_node(rows, i, row);
         return i;
     };
-    let mid = row_at(rows, m);
-    write_node(rows, mid.right, l, row.element, row.right);
-    write_node(rows, left, i, element, mid.left);
-    write_node(rows, Some(i), m, mid.element, Some(l));
+    let middle = row_at(rows, m);
+    write_node(
+        rows,
+        l,
+        Row {
+            left: middle.right,
+            ..below
+        },
+    );
+    write_node(
+        rows,
+        i,
+        Row {
+            right: middle.left,
+            ..row
+        },
+    );
+    write_node(
+        rows,
+        m,
+        Row {
+            left: Some(i),
+            right: Some(l),
+            ..middle
+        },
+    );
     m
 }
 
+/// Writes a row over its place, rotated with what is too high on one side of it; the index of the row on top.
 pub(crate) fn rebalance<E: Copy, T: Measure<E>>(
     rows: &mut [Row<E, T>],
-    left: Option<u16>,
     i: u16,
-    element: E,
-    right: Option<u16>,
+    row: Row<E, T>,
 ) -> u16
-    requires { ∥ ((a : Shape E T) × (b : Shape E T) × Split rows.old left i right a b) ∥₁ }
-    ensures { (a b : Shape E T) → Split rows.old left i right a b → Becomes rows.old rows.new (Some result) (rebalanced T.ops a i element b) }
+    requires { ∥ ((a : Shape E T) × (b : Shape E T) × Split rows.old row.left i row.right a b) ∥₁ }
+    ensures { (a b : Shape E T) → Split rows.old row.left i row.right a b → Becomes rows.old rows.new (Some result) (rebalanced T.ops a i row.element b) }
 {
-    let before = height_of(rows, left);
-    let after = height_of(rows, right);
+    let before = part_of(rows, row.left).height;
+    let after = part_of(rows, row.right).height;
     if after + 1 < before {
-        rotate_right(rows, left, i, element, right)
+        rotate_right(rows, i, row)
     } else if before + 1 < after {
-        rotate_left(rows, left, i, element, right)
+        rotate_left(rows, i, row)
     } else {
-        write_node(rows, left, i, element, right);
+        write_node(rows, i, row);
         i
     }
 }

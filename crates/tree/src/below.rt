@@ -1,8 +1,8 @@
-//! Rows and entries by index, and what stands below a link: its size, height and total, and the element at a place.
+//! Rows by a link, and what stands below one: its height, size and total, and the element at a place.
 
 ghost use Rattle.std.specs.Prelude.{◌≡◌, ℕ, ◌<◌, length, Some, slice_set};
 ghost use Rattle.std.specs.List.{slice_get};
-ghost use Rattle.tree.specs.Shapes.{Shape, size, elements, Under, depth, tall};
+ghost use Rattle.tree.specs.Shapes.{Shape, size, elements, Under, depth};
 ghost use Rattle.tree.specs.Surgery.{part_of};
 
 use crate::measure::Measure;
@@ -20,40 +20,6 @@ pub(crate) fn write_row<E: Copy, T: Copy>(rows: &mut [Row<E, T>], i: u16, row: R
     ensures { rows.new ≡ slice_set rows.old i row }
 {
     rows[i as usize] = row;
-}
-
-pub(crate) fn entry_at<E: Copy>(entries: &[E], i: usize) -> E
-    requires { i < length entries.now }
-    ensures { slice_get entries.now i ≡ Some result }
-{
-    entries[i]
-}
-
-pub(crate) fn write_entry<E: Copy>(entries: &mut [E], i: usize, element: E)
-    requires { i < length entries.old }
-    ensures { entries.new ≡ slice_set entries.old i element }
-{
-    entries[i] = element;
-}
-
-pub(crate) fn size_of<E: Copy, T: Measure<E>>(rows: &[Row<E, T>], link: Option<u16>) -> u16
-    requires { ∥ ((s : Shape E T) × Under rows.now link s × Unit {0}) ∥₁ }
-    ensures { (s : Shape E T) → Under rows.now link s → result ≡ size s }
-{
-    match link {
-        Some(i) => row_at(rows, i).count,
-        None => 0,
-    }
-}
-
-pub(crate) fn height_of<E: Copy, T: Measure<E>>(rows: &[Row<E, T>], link: Option<u16>) -> u16
-    requires { ∥ ((s : Shape E T) × Under rows.now link s × Unit {0}) ∥₁ }
-    ensures { (s : Shape E T) → Under rows.now link s → result ≡ tall s }
-{
-    match link {
-        Some(i) => row_at(rows, i).height,
-        None => 0,
-    }
 }
 
 pub(crate) fn part_of<E: Copy, T: Measure<E>>(rows: &[Row<E, T>], link: Option<u16>) -> Part<T>
@@ -85,20 +51,16 @@ pub(crate) fn read_below<E: Copy, T: Measure<E>>(
     requires { ∥ ((s : Shape E T) × Under rows.now link s × (place < size s)) ∥₁ }
     ensures { (s : Shape E T) → Under rows.now link s → place < size s → (slice_get (elements s) place ≡ Some result.0) × (result.1 ≡ depth s place) }
 {
-    match link {
-        Some(i) => {
-            let row = row_at(rows, i);
-            let before = size_of(rows, row.left);
-            if place < before {
-                let (e, d) = read_below(rows, row.left, place);
-                (e, d + 1)
-            } else if place == before {
-                (row.element, 1)
-            } else {
-                let (e, d) = read_below(rows, row.right, place - before - 1);
-                (e, d + 1)
-            }
-        }
-        None => unreachable(),
+    let Some(i) = link else { unreachable() };
+    let row = row_at(rows, i);
+    let before = part_of(rows, row.left).count;
+    if place < before {
+        let (element, depth) = read_below(rows, row.left, place);
+        (element, depth + 1)
+    } else if place == before {
+        (row.element, 1)
+    } else {
+        let (element, depth) = read_below(rows, row.right, place - before - 1);
+        (element, depth + 1)
     }
 }

@@ -4,7 +4,6 @@ ghost use Rattle.std.specs.Prelude.{◌≤◌, length};
 ghost use Rattle.tree.specs.Building.{Builds, Filling};
 
 use crate::balance::write_node;
-use crate::below::entry_at;
 use crate::measure::Measure;
 use crate::row::{Heads, Row};
 
@@ -27,8 +26,12 @@ pub(crate) fn build_below<E: Copy, T: Measure<E>>(
     let middle = first + (end - first) / 2;
     let left = build_below(rows, elements, first, middle);
     let right = build_below(rows, elements, middle + 1, end);
-    let element = entry_at(elements, middle as usize);
-    write_node(rows, left, middle, element, right);
+    let row = Row {
+        left,
+        right,
+        ..Row::new(elements[middle as usize])
+    };
+    write_node(rows, middle, row);
     Some(middle)
 }
 

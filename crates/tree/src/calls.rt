@@ -120,16 +120,9 @@ impl<'a, E: Copy, T: Measure<E>> Tree<'a, E, T> {
         if first > count {
             return Err(Fault::Place);
         }
-        let end = first + out.len().min(count - first);
-        copy_below(
-            self.rows,
-            self.heads.root,
-            first as u16,
-            end as u16,
-            out,
-            0,
-        );
-        Ok(end - first)
+        let copied = out.len().min(count - first);
+        copy_below(self.rows, self.heads.root, first, &mut out[0..copied]);
+        Ok(copied)
     }
 
     /// The total of a stretch: the totals of its elements, joined first to last.

@@ -5,7 +5,7 @@ ghost use Rattle.tree.specs.Shapes.{Shape};
 ghost use Rattle.tree.specs.Surgery.{Becomes, Fresh, inserted_at};
 
 use crate::balance::{rebalance, write_node};
-use crate::below::{row_at, size_of};
+use crate::below::{part_of, row_at};
 use crate::measure::Measure;
 use crate::row::Row;
 
@@ -20,16 +20,30 @@ pub(crate) fn insert_below<E: Copy, T: Measure<E>>(
     ensures { (s : Shape E T) → Fresh rows.old link place fresh s → Becomes rows.old rows.new (Some result) (inserted_at T.ops s place fresh element) }
 {
     let Some(i) = link else {
-        write_node(rows, None, fresh, element, None);
+        write_node(rows, fresh, Row::new(element));
         return fresh;
     };
     let row = row_at(rows, i);
-    let before = size_of(rows, row.left);
+    let before = part_of(rows, row.left).count;
     if place <= before {
         let left = insert_below(rows, row.left, place, fresh, element);
-        rebalance(rows, Some(left), i, row.element, row.right)
+        rebalance(
+            rows,
+            i,
+            Row {
+                left: Some(left),
+                ..row
+            },
+        )
     } else {
         let right = insert_below(rows, row.right, place - before - 1, fresh, element);
-        rebalance(rows, row.left, i, row.element, Some(right))
+        rebalance(
+            rows,
+            i,
+            Row {
+                right: Some(right),
+                ..row
+            },
+        )
     }
 }

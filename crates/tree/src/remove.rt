@@ -6,7 +6,7 @@ ghost use Rattle.tree.specs.Surgery.{Loose, Sides, Becomes, rest as without_last
 ghost use Rattle.tree.specs.Changes.{Removes};
 
 use crate::balance::rebalance;
-use crate::below::{row_at, size_of};
+use crate::below::{part_of, row_at};
 use crate::measure::Measure;
 use crate::row::Row;
 
@@ -33,11 +33,17 @@ pub(crate) fn detach_last<E: Copy, T: Measure<E>>(rows: &mut [Row<E, T>], i: u16
         };
     };
     let deep = detach_last(rows, next);
-    let top = rebalance(rows, row.left, i, row.element, deep.rest);
+    let top = rebalance(
+        rows,
+        i,
+        Row {
+            right: deep.rest,
+            ..row
+        },
+    );
     Detached {
         rest: Some(top),
-        row: deep.row,
-        element: deep.element,
+        ..deep
     }
 }
 
@@ -54,7 +60,12 @@ pub(crate) fn merge<E: Copy, T: Measure<E>>(
         return right;
     };
     let last = detach_last(rows, l);
-    Some(rebalance(rows, last.rest, last.row, last.element, right))
+    let row = Row {
+        left: last.rest,
+        right,
+        ..Row::new(last.element)
+    };
+    Some(rebalance(rows, last.row, row))
 }
 
 /// Detaches the row at a place.
@@ -68,10 +79,17 @@ pub(crate) fn remove_below<E: Copy, T: Measure<E>>(
 {
     let Some(i) = link else { unreachable() };
     let row = row_at(rows, i);
-    let before = size_of(rows, row.left);
+    let before = part_of(rows, row.left).count;
     if place < before {
         let deep = remove_below(rows, row.left, place);
-        let top = rebalance(rows, deep.rest, i, row.element, row.right);
+        let top = rebalance(
+            rows,
+            i,
+            Row {
+                left: deep.rest,
+                ..row
+            },
+        );
         Detached {
             rest: Some(top),
             ..deep
@@ -85,7 +103,14 @@ pub(crate) fn remove_below<E: Copy, T: Measure<E>>(
         }
     } else {
         let deep = remove_below(rows, row.right, place - before - 1);
-        let top = rebalance(rows, row.left, i, row.element, deep.rest);
+        let top = rebalance(
+            rows,
+            i,
+            Row {
+                right: deep.rest,
+                ..row
+            },
+        );
         Detached {
             rest: Some(top),
             ..deep

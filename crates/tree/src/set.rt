@@ -5,7 +5,7 @@ ghost use Rattle.tree.specs.Shapes.{Shape, size};
 ghost use Rattle.tree.specs.Surgery.{Loose, Becomes, changed_at};
 
 use crate::balance::write_node;
-use crate::below::{row_at, size_of};
+use crate::below::{part_of, row_at};
 use crate::measure::Measure;
 use crate::row::Row;
 
@@ -21,14 +21,14 @@ pub(crate) fn set_below<E: Copy, T: Measure<E>>(
 {
     let Some(i) = link else { unreachable() };
     let row = row_at(rows, i);
-    let before = size_of(rows, row.left);
+    let before = part_of(rows, row.left).count;
     if place < before {
         set_below(rows, row.left, place, element);
-        write_node(rows, row.left, i, row.element, row.right);
+        write_node(rows, i, row);
     } else if place == before {
-        write_node(rows, row.left, i, element, row.right);
+        write_node(rows, i, Row { element, ..row });
     } else {
         set_below(rows, row.right, place - before - 1, element);
-        write_node(rows, row.left, i, row.element, row.right);
+        write_node(rows, i, row);
     }
 }

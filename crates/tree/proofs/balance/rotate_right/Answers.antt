@@ -1,4 +1,4 @@
-use Rattle.std.proofs.Common.{sym, ◌∙◌, subst, arith}
+use Rattle.std.proofs.Common.{sym, ◌∙◌, subst, ap, arith}
 use mathlib.Core.Logic.{∥∥₁_elim, ∥∥₁_map}
 use native.Mathlib.Bridge.{le_prop}
 use Rattle.tree.specs.Shapes.{tall}
@@ -10,78 +10,78 @@ use Rattle.tree.proofs.balance.rotate_right.Goals as goal
 pub returns-in_default : goal.returns-in_default
 returns-in_default g c = λ a b w. subst (Becomes _ _ _) (sym (right_of_none g.T.Measure.ops _ _ a b c.in_default.is w.on_left)) (c.write_node.ensures a b w)
 
-pub row_at-row-requires : goal.row_at-row-requires
-row_at-row-requires g c = ∥∥₁_elim c.requires le_prop (λ w. within w.0 c.in-Some.is w.2.on_left)
+pub row_at-below-requires : goal.row_at-below-requires
+row_at-below-requires g c = ∥∥₁_elim c.requires le_prop (λ w. within w.0 c.in-Some.is w.2.on_left)
 
-pub height_of-requires : goal.height_of-requires
-height_of-requires g c = ∥∥₁_map c.requires (λ w. let o = opened w.0 c.in-Some.is c.row_at-row.ensures w.2.on_left in (o.b, o.right, tt))
+pub part_of-requires : goal.part_of-requires
+part_of-requires g c = ∥∥₁_map c.requires (λ w. let o = opened w.0 c.in-Some.is c.row_at-below.ensures w.2.on_left in (o.b, o.right, tt))
 
-pub height_of-requires-2 : goal.height_of-requires-2
-height_of-requires-2 g c = ∥∥₁_map c.requires (λ w. let o = opened w.0 c.in-Some.is c.row_at-row.ensures w.2.on_left in (o.a, o.left, tt))
+pub part_of-requires-2 : goal.part_of-requires-2
+part_of-requires-2 g c = ∥∥₁_map c.requires (λ w. let o = opened w.0 c.in-Some.is c.row_at-below.ensures w.2.on_left in (o.a, o.left, tt))
 
-pub write_node-requires-then-height_of : goal.write_node-requires-then-height_of
-write_node-requires-then-height_of g c = ∥∥₁_map c.requires (λ w.
-    let o = opened w.0 c.in-Some.is c.row_at-row.ensures w.2.on_left in
+pub write_node-requires-then-part_of : goal.write_node-requires-then-part_of
+write_node-requires-then-part_of g c = ∥∥₁_map c.requires (λ w.
+    let o = opened w.0 c.in-Some.is c.row_at-below.ensures w.2.on_left in
     (o.b, w.1, single_1 g.T.Measure.ops w.2 o))
 
-pub write_node-requires-then-height_of-2 : goal.write_node-requires-then-height_of-2
-write_node-requires-then-height_of-2 g c = ∥∥₁_map c.requires (λ w.
-    let o = opened w.0 c.in-Some.is c.row_at-row.ensures w.2.on_left in
-    let t = c.write_node-then-height_of.ensures o.b w.1 (single_1 g.T.Measure.ops w.2 o) in
-    (o.a, _, single_2 g.T.Measure.ops w.2 o c.write_node-then-height_of.auto.rows t))
+pub write_node-requires-then-part_of-2 : goal.write_node-requires-then-part_of-2
+write_node-requires-then-part_of-2 g c = ∥∥₁_map c.requires (λ w.
+    let o = opened w.0 c.in-Some.is c.row_at-below.ensures w.2.on_left in
+    let t = c.write_node-then-part_of.ensures o.b w.1 (single_1 g.T.Measure.ops w.2 o) in
+    (o.a, _, single_2 g.T.Measure.ops w.2 o c.write_node-then-part_of.auto.rows t))
 
-pub returns-then-height_of : goal.returns-then-height_of
-returns-then-height_of g c = λ a b w.
-    let o = opened a c.in-Some.is c.row_at-row.ensures w.on_left in
-    let t = c.write_node-then-height_of.ensures o.b b (single_1 g.T.Measure.ops w o) in
-    let h = c.height_of.ensures o.b o.right in
-    let h' = c.height_of-2.ensures o.a o.left in
-    single_all g.T.Measure.ops w o c.args.element (omega arith) t
-    (c.write_node-then-height_of-2.ensures _ _ (single_2 g.T.Measure.ops w o c.write_node-then-height_of.auto.rows t))
+pub returns-then-part_of : goal.returns-then-part_of
+returns-then-part_of g c = λ a b w.
+    let o = opened a c.in-Some.is c.row_at-below.ensures w.on_left in
+    let t = c.write_node-then-part_of.ensures o.b b (single_1 g.T.Measure.ops w o) in
+    let h = ap (λ p. p.height) (c.part_of.ensures o.b o.right) in
+    let h' = ap (λ p. p.height) (c.part_of-2.ensures o.a o.left) in
+    single_all g.T.Measure.ops w o c.args.row.element (omega arith) t
+    (c.write_node-then-part_of-2.ensures _ _ (single_2 g.T.Measure.ops w o c.write_node-then-part_of.auto.rows t))
 
 pub write_node-requires-in_default-right : goal.write_node-requires-in_default-right
-write_node-requires-in_default-right g c = ∥∥₁_map c.requires (λ w. (w.0, w.1, subst (λ x. Split c.args.rows.now x c.args.i c.args.right w.0 w.1) c.in-Some.is w.2))
+write_node-requires-in_default-right g c = c.requires
 
 pub returns-in_default-right : goal.returns-in_default-right
 returns-in_default-right g c = λ a b w.
-    let o = opened a c.in-Some.is c.row_at-row.ensures w.on_left in
-    let h = c.height_of.ensures o.b o.right in
-    let h' = c.height_of-2.ensures o.a o.left in
+    let o = opened a c.in-Some.is c.row_at-below.ensures w.on_left in
+    let h = ap (λ p. p.height) (c.part_of.ensures o.b o.right) in
+    let h' = ap (λ p. p.height) (c.part_of-2.ensures o.a o.left) in
     absurd (double_of_none {n = tall o.a} o.b c.in_default-right.is o.right (omega arith))
 
-pub row_at-mid-requires : goal.row_at-mid-requires
-row_at-mid-requires g c = ∥∥₁_elim c.requires le_prop (λ w.
-    let o = opened w.0 c.in-Some.is c.row_at-row.ensures w.2.on_left in
+pub row_at-middle-requires : goal.row_at-middle-requires
+row_at-middle-requires g c = ∥∥₁_elim c.requires le_prop (λ w.
+    let o = opened w.0 c.in-Some.is c.row_at-below.ensures w.2.on_left in
     within o.b c.in-Some-right.is o.right)
 
 pub write_node-requires-2 : goal.write_node-requires-2
 write_node-requires-2 g c = ∥∥₁_map c.requires (λ w.
-    let o = opened w.0 c.in-Some.is c.row_at-row.ensures w.2.on_left in
-    let q = opened o.b c.in-Some-right.is c.row_at-mid.ensures o.right in
+    let o = opened w.0 c.in-Some.is c.row_at-below.ensures w.2.on_left in
+    let q = opened o.b c.in-Some-right.is c.row_at-middle.ensures o.right in
     (o.a, q.a, double_1 g.T.Measure.ops w.2 o q))
 
 pub write_node-requires-3 : goal.write_node-requires-3
 write_node-requires-3 g c = ∥∥₁_map c.requires (λ w.
-    let o = opened w.0 c.in-Some.is c.row_at-row.ensures w.2.on_left in
-    let q = opened o.b c.in-Some-right.is c.row_at-mid.ensures o.right in
+    let o = opened w.0 c.in-Some.is c.row_at-below.ensures w.2.on_left in
+    let q = opened o.b c.in-Some-right.is c.row_at-middle.ensures o.right in
     let t = c.write_node-2.ensures _ _ (double_1 g.T.Measure.ops w.2 o q) in
     (q.b, w.1, double_2 g.T.Measure.ops w.2 o q c.write_node-2.auto.rows t))
 
 pub write_node-requires-4 : goal.write_node-requires-4
 write_node-requires-4 g c = ∥∥₁_map c.requires (λ w.
-    let o = opened w.0 c.in-Some.is c.row_at-row.ensures w.2.on_left in
-    let q = opened o.b c.in-Some-right.is c.row_at-mid.ensures o.right in
+    let o = opened w.0 c.in-Some.is c.row_at-below.ensures w.2.on_left in
+    let q = opened o.b c.in-Some-right.is c.row_at-middle.ensures o.right in
     let t = c.write_node-2.ensures _ _ (double_1 g.T.Measure.ops w.2 o q) in
     let v = c.write_node-3.ensures _ _ (double_2 g.T.Measure.ops w.2 o q c.write_node-2.auto.rows t) in
     (_, _, double_3 g.T.Measure.ops w.2 o q (c.write_node-3.auto.rows ∙ c.write_node-2.auto.rows) t v))
 
 pub returns : goal.returns
 returns g c = λ a b w.
-    let o = opened a c.in-Some.is c.row_at-row.ensures w.on_left in
-    let q = opened o.b c.in-Some-right.is c.row_at-mid.ensures o.right in
+    let o = opened a c.in-Some.is c.row_at-below.ensures w.on_left in
+    let q = opened o.b c.in-Some-right.is c.row_at-middle.ensures o.right in
     let t = c.write_node-2.ensures _ _ (double_1 g.T.Measure.ops w o q) in
     let v = c.write_node-3.ensures _ _ (double_2 g.T.Measure.ops w o q c.write_node-2.auto.rows t) in
     let x = c.write_node-4.ensures _ _ (double_3 g.T.Measure.ops w o q (c.write_node-3.auto.rows ∙ c.write_node-2.auto.rows) t v) in
-    let h = c.height_of.ensures o.b o.right in
-    let h' = c.height_of-2.ensures o.a o.left in
-    double_all g.T.Measure.ops w o q c.args.element (omega arith) t v x
+    let h = ap (λ p. p.height) (c.part_of.ensures o.b o.right) in
+    let h' = ap (λ p. p.height) (c.part_of-2.ensures o.a o.left) in
+    double_all g.T.Measure.ops w o q c.args.row.element (omega arith) t v x

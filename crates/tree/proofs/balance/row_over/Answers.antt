@@ -46,4 +46,4 @@ returns g c = λ a b wa wb.
     let n' = ap (λ r. r.count) q in
     let u = ap (λ r. r.total) p in
     let u' = ap (λ r. r.total) q in
-    row_same c.args.element wa.linked wb.linked (omega arith) (omega arith) (let v = c.join-2.ensures in let w = c.join.ensures in let x = c.of.ensures in cc)
+    row_same c.args.row.element wa.linked wb.linked (omega arith) (omega arith) (let v = c.join-2.ensures in let w = c.join.ensures in let x = c.of.ensures in cc)

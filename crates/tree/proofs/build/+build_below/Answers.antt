@@ -1,6 +1,7 @@
-use Rattle.std.proofs.Common.{refl, arith}
+use Rattle.std.proofs.Common.{◌+◌, ◌-◌, ◌/◌, ◌<◌, length, Some, refl, ap, subst, arith}
+use Rattle.std.proofs.lemmas.Option.{slice_get_read}
 use Rattle.tree.specs.Shapes.{leaf}
-use Rattle.tree.specs.Surgery.{joined}
+use Rattle.tree.specs.Surgery.{joined, Becomes}
 use Rattle.tree.proofs.Building.{built_none, built_split, built_node}
 use Rattle.tree.proofs.build.+build_below.Goals as goal
 
@@ -27,5 +28,11 @@ returns g t c =
     let space = c.requires.space in
     let p = c.build_below-left.auto.rows in
     let q = c.build_below-right.auto.rows in
+    let x = c.index-elements-middle.result in
+    let m = c.args.first + (c.args.end - c.args.first) / 2 in
+    let within = c.requires.within in
+    let inside : m < length xs = omega arith in
+    let here_is = slice_get_read _ _ _ _ refl inside c.index-elements-middle.is in
     let wrote = c.write_node.ensures l.0 r.0 (built_split k xs l.0 r.0 l.1 r.1 refl (omega arith) (omega arith) (omega arith) c.requires.room) in
-    (joined k l.0 _ c.entry_at-element.result r.0, built_node k xs l.0 r.0 l.1 r.1 refl (omega arith) (omega arith) c.entry_at-element.result c.entry_at-element.ensures c.requires.within refl wrote)
+    let here = subst (λ e. Becomes c.build_below-right.new.rows c.write_node.new.rows (Some m) (joined k l.0 m e r.0)) (ap (λ y. y.element) c.new.ensures) wrote in
+    (joined k l.0 m x r.0, built_node k xs l.0 r.0 l.1 r.1 refl (omega arith) (omega arith) x here_is c.requires.within refl here)

@@ -29,7 +29,7 @@ insert_in-self-requires g c =
     record { sound = c.args.self.now.sound; within = omega arith; room = omega arith; space = omega arith }
 
 pub invariant_of-self : goal.invariant_of-self
-invariant_of-self g c = 
+invariant_of-self g c =
     let tree = c.args.self.now in
     let k = g.T.Measure.ops in
     record {

@@ -14,7 +14,7 @@ returns-then-place-heads g c =
     record { answer = a.0; elements = a.1; refused = refl; capacity = refl }
 
 pub invariant_of-self : goal.invariant_of-self
-invariant_of-self g c = 
+invariant_of-self g c =
     let tree = c.args.self.now in
     let k = g.T.Measure.ops in
     record {

@@ -22,7 +22,7 @@ set_in-requires g c =
     record { sound = tree.sound; within = omega arith }
 
 pub invariant_of-self : goal.invariant_of-self
-invariant_of-self g c = 
+invariant_of-self g c =
     let tree = c.args.self.now in
     let k = g.T.Measure.ops in
     record {
