@@ -19,6 +19,40 @@ pub enum Unrecorded {
     Answers,
 }
 
+/// Calls to be carried out, the changes before the questions, and the lists to which the answer to each is written.
+#[derive(Drop)]
+pub struct Recording<'c, 'a, C, O, Q, A> {
+    pub changes: &'c [C],
+    pub outcomes: &'a mut [O],
+    pub questions: &'c [Q],
+    pub answers: &'a mut [A],
+}
+
+impl<C, O, Q, A> Recording<'_, '_, C, O, Q, A> {
+    /// Refuses a list that is too short for its answers, that of the changes first.
+    pub fn fits(&self) -> Result<(), Unrecorded>
+        ensures { result ≡ short_list (length self.now.changes.now) (length self.now.outcomes.now) (length self.now.questions.now) (length self.now.answers.now) }
+    {
+        if self.outcomes.len() < self.changes.len() {
+            return Err(Unrecorded::Outcomes);
+        }
+        if self.answers.len() < self.questions.len() {
+            return Err(Unrecorded::Answers);
+        }
+        Ok(())
+    }
+}
+
+/// The recording of a history of a tree.
+pub type TreeRecording<'c, 'a, E, T> = Recording<
+    'c,
+    'a,
+    Change<E>,
+    Result<Option<E>, Fault>,
+    Question,
+    Result<Told<E, T>, Fault>,
+>;
+
 impl<E: Copy, T: Measure<E>> Tree<'_, E, T> {
     /// Carries out a change; a removal answers the element.
     pub fn change(&mut self, change: Change<E>) -> Result<Option<E>, Fault>
@@ -56,27 +90,16 @@ impl<E: Copy, T: Measure<E>> Tree<'_, E, T> {
     }
 
     /// Empties the tree, carries out the changes, then answers the questions. What each was answered is written to the two lists, whose further entries stay.
-    pub fn history(
-        &mut self,
-        changes: &[Change<E>],
-        outcomes: &mut [Result<Option<E>, Fault>],
-        questions: &[Question],
-        answers: &mut [Result<Told<E, T>, Fault>],
-    ) -> Result<(), Unrecorded>
-        ensures answer { result ≡ short_list (length changes.now) (length outcomes.old) (length questions.now) (length answers.old) }
-        ensures law { OnOk result (History T.ops (capacity_of self.old) changes.now outcomes.new questions.now answers.new self.new) }
-        ensures spare { OnOk result ((drop (length changes.now) outcomes.new ≡ drop (length changes.now) outcomes.old) × (drop (length questions.now) answers.new ≡ drop (length questions.now) answers.old)) }
-        ensures refused { Untouched result self.old self.new × Untouched result outcomes.old outcomes.new × Untouched result answers.old answers.new }
+    pub fn history(&mut self, recording: &mut TreeRecording<'_, '_, E, T>) -> Result<(), Unrecorded>
+        ensures answer { result ≡ short_list (length recording.old.changes.now) (length recording.old.outcomes.now) (length recording.old.questions.now) (length recording.old.answers.now) }
+        ensures law { OnOk result (History T.ops (capacity_of self.old) recording.old.changes.now recording.new.outcomes.now recording.old.questions.now recording.new.answers.now self.new) }
+        ensures spare { OnOk result ((drop (length recording.old.changes.now) recording.new.outcomes.now ≡ drop (length recording.old.changes.now) recording.old.outcomes.now) × (drop (length recording.old.questions.now) recording.new.answers.now ≡ drop (length recording.old.questions.now) recording.old.answers.now)) }
+        ensures refused { Untouched result self.old self.new × Untouched result recording.old.outcomes.now recording.new.outcomes.now × Untouched result recording.old.answers.now recording.new.answers.now }
     {
-        if outcomes.len() < changes.len() {
-            return Err(Unrecorded::Outcomes);
-        }
-        if answers.len() < questions.len() {
-            return Err(Unrecorded::Answers);
-        }
+        recording.fits()?;
         self.clear();
-        self.change_all(changes, outcomes);
-        self.ask_all(questions, answers);
+        self.change_all(recording.changes, recording.outcomes);
+        self.ask_all(recording.questions, recording.answers);
         Ok(())
     }
 

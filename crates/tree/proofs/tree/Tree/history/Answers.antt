@@ -1,5 +1,4 @@
-use Rattle.std.proofs.Common.{◌≡◌, ◌-◌, ◌^◌, ◌≤◌, ltb, [], map, length, sym, ap, ◌∙◌, subst}
-use Rattle.std.proofs.lemmas.Bool.{le-ltb, cond-false}
+use Rattle.std.proofs.Common.{◌≡◌, ◌-◌, ◌^◌, ◌≤◌, [], map, length, sym, ap, ◌∙◌, subst}
 use Rattle.tree.specs.History.{after_all, answers_all, question_answer}
 use Rattle.tree.specs.Trees.{shape, elements_of, capacity_of, depth_in, RowsSound, TotalsRight, least, places_at}
 use Rattle.tree.proofs.Facts.{deep_enough, sparse_enough}
@@ -10,16 +9,14 @@ unfolding shape elements_of depth_in RowsSound TotalsRight
 returns g c =
     let k = g.T.Measure.ops in
     let room = capacity_of c.args.self.now in
-    let changes = c.args.changes.now in
-    let questions = c.args.questions.now in
+    let changes = c.args.recording.now.changes.now in
+    let questions = c.args.recording.now.questions.now in
     let tree = c.change_all.new.self in
     let plain = after_all room [] changes in
     let held : elements_of tree ≡ plain =
     c.change_all.ensures.elements ∙ ap (λ r. after_all r (elements_of c.clear.new.self) changes) c.clear.ensures.capacity ∙ ap (λ xs. after_all room xs changes) c.clear.ensures.elements in
     record {
-      answer =
-          sym (cond-false (ltb (length c.args.outcomes.now) (length changes)) _ _ (le-ltb (length c.args.outcomes.now) (length changes) c.if-outcomes-changes.false)
-          ∙ cond-false (ltb (length c.args.answers.now) (length questions)) _ _ (le-ltb (length c.args.answers.now) (length questions) c.if-answers-questions.false));
+      answer = sym c.in_ok-fits.was ∙ c.fits.ensures;
       law = record {
         answered = c.change_all.ensures.answered ∙ ap (λ r. answers_all r (elements_of c.clear.new.self) changes) c.clear.ensures.capacity ∙ ap (λ xs. answers_all room xs changes) c.clear.ensures.elements;
         held = held;
