@@ -1,4 +1,3 @@
 pub mod Alike
 pub mod Keeping
 pub mod Finding
-pub mod Totals

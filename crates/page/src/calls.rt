@@ -36,8 +36,7 @@ impl<'t, 'a> Page<'t, 'a> {
         ensures room { room_of self.new ≡ room_of self.old }
     {
         let entry = Entry::new(key, lines, hits)?;
-        self.tree.insert(place, entry)?;
-        Ok(())
+        Ok(self.tree.insert(place, entry)?)
     }
 
     /// Takes out the entry at a place.
@@ -47,8 +46,7 @@ impl<'t, 'a> Page<'t, 'a> {
         ensures refused { Untouched result self.old self.new }
         ensures room { room_of self.new ≡ room_of self.old }
     {
-        let entry = self.tree.remove(place)?;
-        Ok(entry)
+        Ok(self.tree.remove(place)?)
     }
 
     /// The entry that shows a line of the screen. Lines count from 0, through the entries one after another.
@@ -65,9 +63,6 @@ impl<'t, 'a> Page<'t, 'a> {
         ensures lines { result.lines ≡ lines_of (entries_of self.now) }
         ensures hits { result.hits ≡ hits_of (entries_of self.now) }
     {
-        match self.tree.total(0, self.len()) {
-            Ok(sums) => sums,
-            Err(_) => unreachable(),
-        }
+        self.tree.total(0, self.len()).unwrap()
     }
 }

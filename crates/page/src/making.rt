@@ -15,13 +15,9 @@ impl Entry {
         if lines < 1 {
             return Err(PageFault::Lines);
         }
-        if lines > 65535 {
+        let Ok(lines) = u16::try_from(lines) else {
             return Err(PageFault::Lines);
-        }
-        Ok(Entry {
-            key,
-            lines: lines as u16,
-            hits,
-        })
+        };
+        Ok(Entry { key, lines, hits })
     }
 }

@@ -23,8 +23,8 @@ impl Measure<Entry> for PageSums {
 
     fn of(element: Entry) -> PageSums {
         PageSums {
-            lines: element.lines as u32,
-            hits: element.hits as u32,
+            lines: u32::from(element.lines),
+            hits: u32::from(element.hits),
         }
     }
 

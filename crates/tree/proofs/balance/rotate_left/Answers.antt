@@ -2,7 +2,7 @@ use Rattle.std.proofs.Common.{sym, ◌∙◌, subst, ap, arith}
 use mathlib.Core.Logic.{∥∥₁_elim, ∥∥₁_map}
 use native.Mathlib.Bridge.{le_prop}
 use Rattle.tree.specs.Shapes.{tall}
-use Rattle.tree.specs.Surgery.{Split, Becomes}
+use Rattle.tree.specs.Surgery.{Becomes}
 use Rattle.tree.proofs.Held.{opened, within}
 use Rattle.tree.proofs.Rotating.{lsingle_1, lsingle_2, lsingle_all, ldouble_1, ldouble_2, ldouble_3, ldouble_all, left_of_none, double_of_none}
 use Rattle.tree.proofs.balance.rotate_left.Goals as goal

@@ -2,7 +2,7 @@ use Rattle.std.proofs.Common.{sym, ◌∙◌, subst, ap, arith}
 use mathlib.Core.Logic.{∥∥₁_elim, ∥∥₁_map}
 use native.Mathlib.Bridge.{le_prop}
 use Rattle.tree.specs.Shapes.{tall}
-use Rattle.tree.specs.Surgery.{Split, Becomes}
+use Rattle.tree.specs.Surgery.{Becomes}
 use Rattle.tree.proofs.Held.{opened, within}
 use Rattle.tree.proofs.Rotating.{single_1, single_2, single_all, double_1, double_2, double_3, double_all, right_of_none, double_of_none}
 use Rattle.tree.proofs.balance.rotate_right.Goals as goal

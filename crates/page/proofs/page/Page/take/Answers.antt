@@ -1,5 +1,4 @@
 use Rattle.std.proofs.Common.{◌≤◌, length, sym, ap, subst}
-use mathlib.Core.Logic.{∥∥₁_map}
 use borrow.Rule.Reborrow.{re_v}
 use Rattle.std.proofs.lemmas.Result.{err_from_is_err_and}
 use Rattle.page.proofs.Alike.{same_page}
@@ -8,13 +7,12 @@ use Rattle.page.proofs.page.Page.take.Goals as goal
 
 pub invariant_of-self : goal.invariant_of-self
 invariant_of-self c = record {
-  totals = ∥∥₁_map c.args.self.now.totals c.remove.ensures.totals;
   few = subst (λ xs. length xs ≤ 4096) (sym c.remove.ensures.elements) (few_remove _ _ c.args.self.now.few);
 }
 
-pub returns-in_err-entry : goal.returns-in_err-entry
-returns-in_err-entry c =
-    let h = c.in_err-entry.ensures in
+pub returns-in_err-remove : goal.returns-in_err-remove
+returns-in_err-remove c =
+    let h = c.in_err-remove.ensures in
     let p = err_from_is_err_and c.from_residual.result c.from_residual.ensures.1 in
     rw (p.1, p.2) (record {
       answer = h.answer;

@@ -1,4 +1,4 @@
-use Rattle.std.proofs.Common.{◌≡◌, ◌+◌, take}
+use Rattle.std.proofs.Common.{◌≡◌, take}
 use Rattle.tree.specs.Plain.{spliced}
 use Rattle.tree.specs.Trees.{elements_of, capacity_of}
 use Rattle.tree.proofs.tree.Tree.insert_all.Given as goal
