@@ -11,8 +11,8 @@ module _ (n : ℕ) (bs : List ℕ) (i : ℕ) (h : i < length bs) where
   not_low : 48 ≤ get_or bs i 0 → read_on n (drop i bs) ≡ cond (ltb 57 (get_or bs i 0)) None (read_on (n * 10 + (get_or bs i 0 - 48)) (drop (i + 1) bs))
   not_low lo = at_drop_more (read_on n) bs i 0 h ∙ ap (λ t. cond t None (cond (ltb 57 (get_or bs i 0)) None (read_on (n * 10 + (get_or bs i 0 - 48)) (drop (i + 1) bs)))) (le-ltb (get_or bs i 0) 48 lo)
 
-  pub high : 48 ≤ get_or bs i 0 → 57 < get_or bs i 0 → read_on n (drop i bs) ≡ None
-  high lo hi = not_low lo ∙ ap (λ t. cond t None (read_on (n * 10 + (get_or bs i 0 - 48)) (drop (i + 1) bs))) (lt-ltb 57 (get_or bs i 0) hi)
+  pub high : 57 < get_or bs i 0 → read_on n (drop i bs) ≡ None
+  high hi = not_low (omega arith) ∙ ap (λ t. cond t None (read_on (n * 10 + (get_or bs i 0 - 48)) (drop (i + 1) bs))) (lt-ltb 57 (get_or bs i 0) hi)
 
   pub digit : 48 ≤ get_or bs i 0 → get_or bs i 0 ≤ 57 → read_on n (drop i bs) ≡ read_on (n * 10 + (get_or bs i 0 - 48)) (drop (i + 1) bs)
   digit lo hi = not_low lo ∙ ap (λ t. cond t None (read_on (n * 10 + (get_or bs i 0 - 48)) (drop (i + 1) bs))) (le-ltb 57 (get_or bs i 0) hi)

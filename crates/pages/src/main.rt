@@ -14,15 +14,11 @@ mod step;
 use session::{LIMIT, respond};
 use std::io::Read;
 
-fn serve(rt: &HostRuntime) -> anyhow::Result<()> {
+fn main(rt: HostRuntime) -> anyhow::Result<()> {
     let mut input = Vec::new(rt.alloc());
     let mut bytes = rt.stdin().take(LIMIT as u64 + 1);
     let _ = bytes.read_to_end(&mut input)?;
     let printed = respond(rt.alloc(), input.as_slice())?;
     rt.print(printed.as_str())?;
     Ok(())
-}
-
-fn main(rt: HostRuntime) -> anyhow::Result<()> {
-    serve(&rt)
 }

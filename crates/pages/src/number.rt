@@ -11,14 +11,11 @@ fn digits(bytes: &[u8]) -> Option<u32>
     ensures { result ≡ read_on 0 bytes.now }
 {
     let mut n: u32 = 0;
-    for (i, b) in bytes.iter().enumerate() {
-        if *b < b'0' {
+    for b in bytes {
+        if !b.is_ascii_digit() {
             return None;
         }
-        if *b > b'9' {
-            return None;
-        }
-        n = n * 10 + (*b - b'0') as u32;
+        n = n * 10 + u32::from(*b - b'0');
     }
     Some(n)
 }
@@ -27,28 +24,21 @@ fn digits(bytes: &[u8]) -> Option<u32>
 pub(crate) fn number(field: &[u8]) -> Result<u32, Refusal>
     ensures { result ≡ number_in field.now }
 {
-    if field.len() < 1 {
-        return Err(Refusal::Number);
-    }
-    if field.len() > 9 {
+    if field.is_empty() || field.len() > 9 {
         return Err(Refusal::Number);
     }
     if field.len() > 1 && field[0] == b'0' {
         return Err(Refusal::Number);
     }
-    match digits(field) {
-        Some(n) => Ok(n),
-        None => Err(Refusal::Number),
-    }
+    digits(field).ok_or(Refusal::Number)
 }
 
 /// The number in a field, which is at most 65,535.
 pub(crate) fn small(field: &[u8]) -> Result<u16, Refusal>
     ensures { result ≡ small_in field.now }
 {
-    let n = number(field)?;
-    if n > 65535 {
+    let Ok(n) = u16::try_from(number(field)?) else {
         return Err(Refusal::Number);
-    }
-    Ok(n as u16)
+    };
+    Ok(n)
 }

@@ -2,7 +2,6 @@
 
 ghost use Rattle.std.specs.Prelude.{◌≡◌, [], ◌∷◌, length, MatchResult, ◌≢◌};
 ghost use Rattle.std.specs.Option.{option_map};
-ghost use Rattle.std.specs.Str.{bytes_eq};
 ghost use Rattle.pages.specs.Calls.{put_of, take_of, find_of, call_in};
 ghost use Rattle.pages.specs.Lines.{fields_left};
 
@@ -16,10 +15,10 @@ const TAB: u8 = 9;
 fn field<'a>(rest: Option<&'a [u8]>) -> Result<(&'a [u8], Option<&'a [u8]>), Refusal>
     ensures { MatchResult result (λ p. fields_left (option_map (λ x. x.now) rest.entry) ≡ p.0.now ∷ fields_left (option_map (λ x. x.now) p.1)) (λ e. (e ≡ Refusal.Command) × (fields_left (option_map (λ x. x.now) rest.entry) ≡ [])) }
 {
-    match rest {
-        Some(bytes) => Ok(cut(bytes, TAB)),
-        None => Err(Refusal::Command),
-    }
+    let Some(bytes) = rest else {
+        return Err(Refusal::Command);
+    };
+    Ok(cut(bytes, TAB))
 }
 
 /// The one field that is left.
@@ -42,13 +41,6 @@ fn four<'a>(rest: Option<&'a [u8]>) -> Result<(&'a [u8], &'a [u8], &'a [u8], &'a
     let (third, rest) = field(rest)?;
     let fourth = one(rest)?;
     Ok((first, second, third, fourth))
-}
-
-/// Whether a word is a name.
-fn is(word: &[u8], name: &[u8]) -> bool
-    ensures { result ≡ bytes_eq word.now name.now }
-{
-    word == name
 }
 
 /// Reads the fields of `put`.
@@ -89,11 +81,11 @@ pub(crate) fn parse(line: &[u8]) -> Result<Call, Refusal>
     ensures { result ≡ call_in line.now }
 {
     let (word, rest) = cut(line, TAB);
-    if is(word, b"put") {
+    if word == b"put".as_slice() {
         put(rest)
-    } else if is(word, b"take") {
+    } else if word == b"take".as_slice() {
         take(rest)
-    } else if is(word, b"find") {
+    } else if word == b"find".as_slice() {
         find(rest)
     } else {
         Err(Refusal::Command)
