@@ -1,28 +1,43 @@
 //! What is printed.
 
-ghost use Rattle.std.specs.Prelude.{◌≡◌, IfOk, string_bytes};
+ghost use Rattle.std.specs.Prelude.{◌≡◌, Some, IfOk, string_bytes};
 ghost use Rattle.page.specs.Pages.{entries_of};
 ghost use Rattle.pages.specs.Session.{told};
 ghost use Rattle.pages.specs.Reports.{answer_text, line_text, end_text};
 
 use crate::answer::Answer;
 use crate::call::Refusal;
+use page::entry::Entry;
 use page::page::Page;
+use page::sums::PageSums;
 use std::alloc::{AllocError, Global};
+use std::fmt;
 
 /// The line that tells an answer.
-fn answer_report(heap: Global, answer: Answer) -> Result<String, AllocError>
-    ensures { IfOk result (λ s. string_bytes s ≡ answer_text answer) }
-{
-    match answer {
-        Answer::Put(count) => format!(in heap; "put\t{count}\n"),
-        Answer::Taken(entry) => {
-            let (key, lines, hits) = (entry.key, entry.lines, entry.hits);
-            format!(in heap; "take\t{key}\t{lines}\t{hits}\n")
-        }
-        Answer::Found(entry) => {
-            let (key, lines, hits) = (entry.key, entry.lines, entry.hits);
-            format!(in heap; "find\t{key}\t{lines}\t{hits}\n")
+impl fmt::Display for Answer {
+    ghost output = { λ answer. Some (answer_text answer) };
+
+    fn fmt<W: fmt::Write>(&self, f: &mut fmt::Formatter<W>) -> fmt::Result {
+        match self {
+            Answer::Put(count) => write!(f, "put\t{count}\n"),
+            Answer::Taken(entry) => {
+                let Entry {
+                    key,
+                    lines,
+                    hits,
+                    ..
+                } = entry;
+                write!(f, "take\t{key}\t{lines}\t{hits}\n")
+            }
+            Answer::Found(entry) => {
+                let Entry {
+                    key,
+                    lines,
+                    hits,
+                    ..
+                } = entry;
+                write!(f, "find\t{key}\t{lines}\t{hits}\n")
+            }
         }
     }
 }
@@ -36,7 +51,7 @@ pub(crate) fn line_report(
     ensures { IfOk result (λ s. string_bytes s ≡ line_text number (told outcome)) }
 {
     match outcome {
-        Ok(answer) => answer_report(heap, answer),
+        Ok(answer) => format!(in heap; "{answer}"),
         Err(refusal) => {
             let code = refusal.number();
             format!(in heap; "!\t{number}\t{code}\n")
@@ -53,7 +68,6 @@ pub(crate) fn end_report(
     ensures { IfOk result (λ s. string_bytes s ≡ end_text (entries_of page.now) refused) }
 {
     let count = page.len();
-    let sums = page.sums();
-    let (lines, hits) = (sums.lines, sums.hits);
+    let PageSums { lines, hits } = page.sums();
     format!(in heap; "end\t{count}\t{lines}\t{hits}\t{refused}\n")
 }
