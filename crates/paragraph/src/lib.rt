@@ -7,6 +7,7 @@ mod column;
 mod context;
 mod edit;
 pub mod fault;
+mod level;
 mod order;
 pub mod outcome;
 pub mod paragraph;
