@@ -10,6 +10,7 @@ ghost use Rattle.paragraph.specs.Outcomes.{OutcomeOf, OutcomeBy, edit_told, turn
 ghost use Rattle.paragraph.specs.Paragraphs.{items_of, room_of, base_in, plain_of};
 ghost use Rattle.paragraph.specs.Plain.{first_wide as first_wide_of, edit_answer, after_edit};
 
+use crate::change::Change;
 use crate::fault::ParagraphFault;
 use crate::outcome::Outcome;
 use crate::paragraph::{Paragraph, Total};
@@ -53,13 +54,20 @@ impl<'t, 'a> Paragraph<'t, 'a> {
     {
         let base = self.base();
         let is = self.edges(base, place, place + count);
+        let change = Change {
+            paragraph: self,
+            place,
+            count,
+            was,
+            is,
+        };
         let span = if was.base == base {
-            self.span_by_walk(place, count, was, is)
+            change.span_by_walk()
         } else {
-            self.span_by_scan(place, count, was, is)
+            change.span_by_scan()
         };
         Outcome {
-            count: self.tree.len(),
+            count: self.count(),
             base: base.level(),
             span,
         }

@@ -3,6 +3,7 @@
 #![tactic(auto)]
 
 mod ask;
+mod change;
 mod column;
 mod context;
 mod edit;
