@@ -13,9 +13,6 @@ use Rattle.paragraph.specs.Edges.{edges, ChangedBy}
 use Rattle.paragraph.proofs.SpanLaws.{same_places}
 use Rattle.paragraph.proofs.Walks.{in_front, in_rest}
 
-abbrev pub Edit : List Class → ℕ → ℕ → List Class → List Class → Type 0
-Edit xs place removed fresh ys = (place + removed ≤ length xs) × (ys ≡ spliced xs place (place + removed) fresh)
-
 module _ (xs : List Class) (place removed : ℕ) (fresh : List Class) (h : place + removed ≤ length xs) where
   front_length : length (take place xs) ≡ place
   front_length = length-take-le place xs (omega arith)

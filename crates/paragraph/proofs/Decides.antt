@@ -9,7 +9,11 @@ use Rattle.rules.specs.declared.contexts.Left.{Left}
 use Rattle.rules.specs.declared.contexts.Right.{Right}
 use Rattle.paragraph.specs.declared.span.Edges.{Edges}
 use Rattle.paragraph.specs.Steps.{none, left, right, level_in}
-use Rattle.paragraph.specs.Edges.{ChangedBy}
+use Rattle.paragraph.specs.Edges.{ChangedBy, IsChanged}
+use Rattle.paragraph.specs.Paragraphs.{items_of}
+use Rattle.paragraph.specs.declared.change.Change.{Change}
+use Rattle.bidi.specs.Items.{classes}
+use Rattle.paragraph.proofs.Stretched.{length-classes}
 
 module _ (e f : Edges) (xs : List Class) (place count i : ℕ) where
   abbrev pub At : Type 0
@@ -74,3 +78,12 @@ module _ (xs : List Class) (b : Side) where
 
 pub changed_within : (e f : Edges) (xs : List Class) (place count : ℕ) → place + count ≤ length xs → (i : ℕ) → ChangedBy e f xs place count i → i < length xs
 changed_within e f xs place count h i u = within e f xs place count i h u
+
+-- a place that a change changed is there
+pub changed_there : (e : Change) (k : ℕ) → IsChanged e k → k < length (items_of e.paragraph.now)
+unfolding IsChanged
+changed_there e k p =
+    let fits = e.fits in
+    let n = length-classes (items_of e.paragraph.now) in
+    let a = changed_within e.was e.is (classes (items_of e.paragraph.now)) e.place e.count (omega arith) k p in
+    omega arith

@@ -87,22 +87,22 @@ module _ (room : ℕ) (xs : List Item) (place removed : ℕ) (new : List Item) w
   edit_no_place h = let a = sym (cond-true (ltb (length xs) place) (Err (plain 11)) _ (lt-ltb (length xs) place h)) in (a, kept (plain 11) a)
 
   module _ (h : place ≤ length xs) where
-    past_place : edit_answer room xs place removed new ≡ cond (ltb (length xs - place) removed) (Err (plain 12)) (unless_wide (first_wide 0 new) (cond (ltb room (length xs - removed + length new)) (Err (plain 2)) (Ok tt)))
+    past_place : edit_answer room xs place removed new ≡ cond (ltb (length xs - place) removed) (Err (plain 12)) (unless_wide (first_wide new) (cond (ltb room (length xs - removed + length new)) (Err (plain 2)) (Ok tt)))
     past_place = cond-false (ltb (length xs) place) (Err (plain 11)) _ (le-ltb (length xs) place h)
 
     pub edit_no_removed : length xs - place < removed → (Err (plain 12) ≡ edit_answer room xs place removed new) × (xs ≡ after_edit room xs place removed new)
     edit_no_removed k = let a = sym (past_place ∙ cond-true (ltb (length xs - place) removed) (Err (plain 12)) _ (lt-ltb (length xs - place) removed k)) in (a, kept (plain 12) a)
 
     module _ (k : removed ≤ length xs - place) where
-      past_removed : edit_answer room xs place removed new ≡ unless_wide (first_wide 0 new) (cond (ltb room (length xs - removed + length new)) (Err (plain 2)) (Ok tt))
+      past_removed : edit_answer room xs place removed new ≡ unless_wide (first_wide new) (cond (ltb room (length xs - removed + length new)) (Err (plain 2)) (Ok tt))
       past_removed = past_place ∙ cond-false (ltb (length xs - place) removed) (Err (plain 12)) _ (le-ltb (length xs - place) removed k)
 
-      pub edit_wide : (r : Refusal) → Err r ≡ unless_wide (first_wide 0 new) (Ok tt) → (Err r ≡ edit_answer room xs place removed new) × (xs ≡ after_edit room xs place removed new)
-      edit_wide r e = let a = refused_wide (first_wide 0 new) r _ e ∙ sym past_removed in (a, kept r a)
+      pub edit_wide : (r : Refusal) → Err r ≡ unless_wide (first_wide new) (Ok tt) → (Err r ≡ edit_answer room xs place removed new) × (xs ≡ after_edit room xs place removed new)
+      edit_wide r e = let a = refused_wide (first_wide new) r _ e ∙ sym past_removed in (a, kept r a)
 
-      module _ (narrow : Ok tt ≡ unless_wide (first_wide 0 new) (Ok tt)) where
+      module _ (narrow : Ok tt ≡ unless_wide (first_wide new) (Ok tt)) where
         past_width : edit_answer room xs place removed new ≡ cond (ltb room (length xs - removed + length new)) (Err (plain 2)) (Ok tt)
-        past_width = past_removed ∙ not_wide (first_wide 0 new) _ narrow
+        past_width = past_removed ∙ not_wide (first_wide new) _ narrow
 
         pub edit_full : room < length xs - removed + length new → (Err (plain 2) ≡ edit_answer room xs place removed new) × (xs ≡ after_edit room xs place removed new)
         edit_full l = let a = sym (past_width ∙ cond-true (ltb room (length xs - removed + length new)) (Err (plain 2)) (Ok tt) (lt-ltb room (length xs - removed + length new) l)) in (a, kept (plain 2) a)

@@ -1,8 +1,9 @@
 -- Laws of spans, for any places.
 use Rattle.std.proofs.Common.{◌≡◌, ℕ, ◌+◌, ◌-◌, ◌<◌, ◌≤◌, Bool, true, false, cond, ltb, ◌⊎◌, Some, None, Option, sym, refl, subst, ap₂, inl, inr, ⊎_elim, arith, ltb-false, ltb-true}
+use Rattle.std.specs.Option.{MatchOption}
 use Rattle.std.proofs.lemmas.Bool.{cases_lt}
 use Rattle.paragraph.specs.declared.span.Span.{Span}
-use Rattle.paragraph.specs.Spans.{SpanOf, FirstOf, LastOf, Given, earlier, later, hull, point}
+use Rattle.paragraph.specs.Spans.{SpanOf, FirstOf, LastOf, earlier, later, hull, point}
 
 pub span_is_unique : (P : ℕ → Type 0) (r s : Option Span) → SpanOf P r → SpanOf P s → r ≡ s
 span_is_unique P None None h k = refl
@@ -84,17 +85,11 @@ ends_span P i j f l =
     low : (k : ℕ) → k ≤ j → k < j + 1
     low k h = omega arith
 
-pub given_span : (place count : ℕ) → 0 < count → SpanOf (Given place count) (Some (record { first = place; end = place + count }))
-given_span place count h = ((omega arith, omega arith), (omega arith, omega arith), λ i g. (g.0, g.1))
-
-pub given_none : (place count : ℕ) → count ≡ 0 → SpanOf (Given place count) None
-given_none place count h = λ i g. none i g.0 g.1
-  where
-    none : (i : ℕ) → place ≤ i → i < place + count → ⊥
-    none i a b = omega arith
-
-pub first_at : (P : ℕ → Type 0) (i : ℕ) → P i → ((k : ℕ) → k < i → P k → ⊥) → FirstOf P (Some i)
-first_at P i here below = (here, λ k p. ⊎_elim (λ (h : k < i). absurd (below k h p)) (λ h. h) (cases_lt k i))
+-- the first of the places below n that a search from the front found, where P holds of none beyond
+pub first_found : (P : ℕ → Type 0) (n : ℕ) (r : Option ℕ) → ((k : ℕ) → P k → k < n)
+    → MatchOption r ((k : ℕ) → 0 ≤ k → k < n → P k → ⊥) (λ i. (0 ≤ i) × (i < n) × P i × ((k : ℕ) → 0 ≤ k → k < i → P k → ⊥)) → FirstOf P r
+first_found P n None below h = λ k p. h k (omega arith) (below k p) p
+first_found P n (Some i) below h = (h.2, λ k p. ⊎_elim (λ (l : k < i). absurd (h.3 k (omega arith) l p)) (λ l. l) (cases_lt k i))
 
 pub last_at : (P : ℕ → Type 0) (j : ℕ) → P (j - 1) → ((k : ℕ) → P k → k < j) → LastOf P (Some (j - 1))
 last_at P j here above = (here, λ k p. let a = above k p in omega arith)

@@ -59,12 +59,6 @@ read_is {E} xs p d x e h = go (slice_get xs p) h
     go None h = let z : ◌≡◌ {A = ℕ} 0 1 = cc in absurd (omega arith)
     go (Some y) h = ap (λ (z : E). Some z) (sym (ap (element_in x) h))
 
--- and one that is there is read
-pub read_there : {E : Type 0} (xs : List E) (p d n : ℕ) → p < length xs → Err n ≡ with_depth d (found (slice_get xs p)) → ⊥
-read_there [] p d n h e = omega arith
-read_there (x ∷ xs) zero d n h e = let z : ◌≡◌ {A = ℕ} 0 1 = cc in omega arith
-read_there (x ∷ xs) (suc p) d n h e = read_there xs p d n (omega arith) e
-
 -- the depth of an answer, or another
 depth_told : {E : Type 0} → ℕ → Result (E × ℕ) ℕ → ℕ
 depth_told d (Ok q) = q.1

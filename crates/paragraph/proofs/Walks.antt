@@ -1,6 +1,6 @@
 -- Contexts along a list, and where they agree.
 use Rattle.std.proofs.Common.{◌≡◌, ℕ, ◌+◌, ◌-◌, ◌<◌, ◌≤◌, List, [], ◌∷◌, ◌++◌, length, get_or, take, drop, sym, refl, ap, ◌∙◌, ap₂, ⊎_elim, arith}
-use Rattle.std.proofs.lemmas.List.{take-append-drop, drop-drop, take_more, drop_more, take-take, drop-take, get_or-take, get_or-drop, length-take-le, drop-append-le}
+use Rattle.std.proofs.lemmas.List.{take-append-drop, drop-drop, take_more, drop_more, take-take, drop-take, get_or-take, get_or-drop}
 use Rattle.std.proofs.lemmas.Bool.{cases_lt}
 use Rattle.rules.specs.Contexts.{after, before, level_at}
 use Rattle.rules.specs.declared.classes.Class.{Class}
@@ -86,9 +86,3 @@ in_rest b l r xs p k =
     let e : p + k + 1 ≡ p + (k + 1) = omega arith in
     same_level b (left_on l xs p k) (sym (get_or-drop p xs k none))
     (ap (λ (n : ℕ). right r (drop n xs)) e ∙ ap (right r) (sym (drop-drop (k + 1) p xs)))
-
-pub left_part_more : (l : Left) (xs : List Class) (p i : ℕ) → p ≤ i → i < length xs → left l (drop p (take (i + 1) xs)) ≡ after (left l (drop p (take i xs))) (get_or xs i none)
-left_part_more l xs p i h j =
-    let n : p ≤ length (take i xs) = omega (arith, length-take-le i xs (omega arith)) in
-    ap (left l) (ap (drop p) (take_more xs i none j) ∙ drop-append-le p (take i xs) (get_or xs i none ∷ []) n)
-    ∙ left_append l (drop p (take i xs)) (get_or xs i none ∷ [])

@@ -7,6 +7,9 @@ use Rattle.rules.specs.declared.classes.Class.{Class}
 use Rattle.rules.specs.declared.classes.Side.{Side}
 use Rattle.rules.specs.declared.contexts.Left.{Left}
 use Rattle.rules.specs.declared.contexts.Right.{Right}
+use Rattle.bidi.specs.Items.{classes}
+use Rattle.paragraph.specs.Paragraphs.{items_of}
+use Rattle.paragraph.specs.declared.change.Change.{Change}
 use Rattle.paragraph.specs.declared.span.Edges.{Edges}
 use Rattle.paragraph.specs.declared.span.Surroundings.{Surroundings}
 
@@ -42,3 +45,7 @@ abbrev pub ChangedBy : Edges → Edges → List Class → ℕ → ℕ → ℕ �
 ChangedBy e f xs place count i =
     Given place count i
     ⊎ (OtherBefore e f xs place i ⊎ Moved (place + count) (OtherBehind e f xs (place + count)) i)
+
+-- place i is new or changed by a change
+unfoldable pub IsChanged : Change → ℕ → Type 0
+IsChanged c = ChangedBy c.was c.is (classes (items_of c.paragraph.now)) c.place c.count

@@ -23,7 +23,7 @@ OutcomeOf was is place removed count o = OutcomeBy is (Changed (levels_in was) (
 
 -- items are taken unless one is wider than two columns
 abbrev pub widths_answer : List Item → Result (Unit {0}) Refusal
-widths_answer items = unless_wide (first_wide 0 items) (Ok tt)
+widths_answer items = unless_wide (first_wide items) (Ok tt)
 
 -- what is told of a change of one plain paragraph to another, which put `count` new items in the place of `removed` ones
 abbrev pub change_told : Plain → Plain → ℕ → ℕ → ℕ → Outcome

@@ -1,5 +1,5 @@
 -- The plain paragraph: what it is, what it answers to an edit, and what it then is.
-use Rattle.std.specs.Prelude.{ℕ, suc, ◌+◌, ◌-◌, cond, List, [], ◌∷◌, length, Some, None, Ok, Err, Option, Result, nat_lt}
+use Rattle.std.specs.Prelude.{ℕ, ◌+◌, ◌-◌, cond, List, length, Some, None, Ok, Err, Option, Result, nat_lt, position}
 use Rattle.tree.specs.Plain.{accepted, spliced}
 use Rattle.rules.specs.declared.classes.Direction.{Direction}
 use Rattle.bidi.specs.Resolving.{levels_of}
@@ -15,10 +15,9 @@ pub record Plain : Type 0 where
 abbrev pub levels_of_plain : Plain → List ℕ
 levels_of_plain p = levels_of p.direction p.items
 
--- the position of the first item wider than two columns, where the first has the position n
-abbrev pub first_wide : ℕ → List Item → Option ℕ
-first_wide n [] = None
-first_wide n (x ∷ xs) = cond (nat_lt 2 x.width) (Some n) (first_wide (suc n) xs)
+-- the position of the first item wider than two columns
+abbrev pub first_wide : List Item → Option ℕ
+first_wide items = position (λ item. nat_lt 2 item.width) items
 
 -- a too wide item is refused before what follows
 abbrev pub unless_wide : Option ℕ → Result (Unit {0}) Refusal → Result (Unit {0}) Refusal
@@ -30,7 +29,7 @@ abbrev pub edit_answer : ℕ → List Item → ℕ → ℕ → List Item → Res
 edit_answer room xs place removed new =
     cond (nat_lt (length xs) place) (Err (plain 11))
     (cond (nat_lt (length xs - place) removed) (Err (plain 12))
-    (unless_wide (first_wide 0 new) (cond (nat_lt room (length xs - removed + length new)) (Err (plain 2)) (Ok tt))))
+    (unless_wide (first_wide new) (cond (nat_lt room (length xs - removed + length new)) (Err (plain 2)) (Ok tt))))
 
 -- the items before the place, then the new ones, then those behind the removed
 abbrev pub after_edit : ℕ → List Item → ℕ → ℕ → List Item → List Item

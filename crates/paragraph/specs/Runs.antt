@@ -1,8 +1,18 @@
 -- The runs of a paragraph: the longest stretches of one level.
-use Rattle.std.specs.Prelude.{◌≡◌, ℕ, suc, ◌<◌, ◌≤◌, List, length, Ok, Err, Result, ◌≢◌, slice_index}
+use Rattle.std.specs.Prelude.{◌≡◌, ℕ, suc, ◌<◌, ◌≤◌, Bool, true, false, List, length, Ok, Err, Result, ◌≢◌, slice_index}
 use Rattle.paragraph.specs.Faults.{number}
 use Rattle.paragraph.specs.declared.fault.ParagraphFault.{ParagraphFault}
 use Rattle.paragraph.specs.declared.run.Run.{Run}
+use Rattle.paragraph.specs.declared.span.Span.{Span}
+
+-- the longest stretch around the place p in which a test answers yes to every level: it answers no just outside
+pub record StretchOf (levels : List ℕ) (Answers : ℕ → Bool → Type 0) (p : ℕ) (s : Span) : Type 0 where
+  pub from : s.first ≤ p
+  pub to : p ≤ s.end
+  pub ends : s.end ≤ length levels
+  pub passed : (i : ℕ) → s.first ≤ i → i < s.end → Answers (slice_index levels i) true
+  pub left : (i : ℕ) → suc i ≡ s.first → Answers (slice_index levels i) false
+  pub right : s.end < length levels → Answers (slice_index levels s.end) false
 
 -- the run of these levels that holds the place p: one level inside, and another just outside
 pub record RunOf (levels : List ℕ) (p : ℕ) (r : Run) : Type 0 where

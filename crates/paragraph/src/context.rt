@@ -1,31 +1,56 @@
-//! What the items before and behind a place do to a context, from the totals of the tree.
+//! The width of a stretch, and what the items before and behind a place do to a context, from the totals of the tree.
 
 ghost use Rattle.std.specs.Prelude.{◌≡◌, ◌+◌, ◌<◌, ◌≤◌, length, take, drop, slice_index_or};
 ghost use Rattle.std.specs.List.{between};
 ghost use Rattle.rules.specs.Contexts.{start as left_start, end as right_end};
-ghost use Rattle.bidi.specs.Items.{classes};
+ghost use Rattle.rules.specs.Stretches.{width_between};
+ghost use Rattle.bidi.specs.Items.{classes, widths};
 ghost use Rattle.bidi.specs.Sums.{context_ops};
 ghost use Rattle.tree.specs.Measures.{total_of};
 ghost use Rattle.paragraph.specs.Paragraphs.{items_of, base_in};
 ghost use Rattle.paragraph.specs.Steps.{left as left_along, right as right_along, none};
+ghost use Rattle.paragraph.specs.Totals.{total_ops};
 ghost use Rattle.paragraph.specs.Edges.{edges as edges_of, surroundings as surroundings_of};
 
-use crate::paragraph::Paragraph;
+use crate::paragraph::{Paragraph, Total};
 use crate::span::{Edges, Surroundings};
 use bidi::contexts::Contexts;
 use rules::{Class, Left, Right, Side};
 
 impl Paragraph<'_, '_> {
+    /// How many items are there.
+    pub(crate) fn count(&self) -> usize
+        ensures { result ≡ length (items_of self.now) }
+    {
+        self.tree.len()
+    }
+
+    /// The total of a stretch.
+    fn total(&self, first: usize, end: usize) -> Total
+        requires ordered { first ≤ end }
+        requires within { end ≤ length (items_of self.now) }
+        ensures { result ≡ total_of total_ops (between first end (items_of self.now)) }
+    {
+        self.tree.total(first, end).unwrap()
+    }
+
+    /// The width of a stretch.
+    pub(crate) fn width_of(&self, first: usize, end: usize) -> u32
+        requires ordered { first ≤ end }
+        requires within { end ≤ length (items_of self.now) }
+        ensures sum { result ≡ width_between (widths (items_of self.now)) first end }
+        ensures small { result ≤ 1044480 }
+    {
+        self.total(first, end).first.width
+    }
+
     /// What the items of a stretch do to contexts.
     fn contexts(&self, first: usize, end: usize) -> Contexts
         requires ordered { first ≤ end }
         requires within { end ≤ length (items_of self.now) }
         ensures { result ≡ total_of context_ops (between first end (items_of self.now)) }
     {
-        match self.tree.total(first, end) {
-            Ok(total) => total.second,
-            Err(_) => unreachable(),
-        }
+        self.total(first, end).second
     }
 
     /// The base direction.
@@ -74,13 +99,11 @@ impl Paragraph<'_, '_> {
         requires { place < length (items_of self.now) }
         ensures { result ≡ surroundings_of base (classes (items_of self.now)) place }
     {
-        match self.tree.around(place) {
-            Ok(told) => Surroundings {
-                left: told.0.second.after(Left::start(base)),
-                class: told.1.class,
-                right: told.2.second.before(Right::end(base)),
-            },
-            Err(_) => unreachable(),
+        let (before, item, behind) = self.tree.around(place).unwrap();
+        Surroundings {
+            left: before.second.after(Left::start(base)),
+            class: item.class,
+            right: behind.second.before(Right::end(base)),
         }
     }
 
@@ -89,10 +112,8 @@ impl Paragraph<'_, '_> {
         requires { place < length (items_of self.now) }
         ensures { result ≡ slice_index_or (classes (items_of self.now)) place none }
     {
-        match self.tree.read(place) {
-            Ok(told) => told.0.class,
-            Err(_) => unreachable(),
-        }
+        let (item, _) = self.read(place).unwrap();
+        item.class
     }
 
     /// What the edges of a stretch of at most one item see, from the item there.

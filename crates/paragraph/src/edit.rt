@@ -7,10 +7,10 @@ ghost use Rattle.bidi.specs.Items.{classes};
 ghost use Rattle.paragraph.specs.Edges.{ChangedBy, edges as edges_of};
 ghost use Rattle.paragraph.specs.Faults.{numbered, verdict};
 ghost use Rattle.paragraph.specs.Outcomes.{OutcomeOf, OutcomeBy, edit_told, turn_told, widths_answer};
-ghost use Rattle.paragraph.specs.Paragraphs.{items_of, room_of, base_in, levels_in, plain_of};
-ghost use Rattle.paragraph.specs.Plain.{edit_answer, after_edit};
-ghost use Rattle.paragraph.specs.Spans.{Changed};
+ghost use Rattle.paragraph.specs.Paragraphs.{items_of, room_of, base_in, plain_of};
+ghost use Rattle.paragraph.specs.Plain.{first_wide as first_wide_of, edit_answer, after_edit};
 
+use crate::change::Change;
 use crate::fault::ParagraphFault;
 use crate::outcome::Outcome;
 use crate::paragraph::{Paragraph, Total};
@@ -19,16 +19,21 @@ use bidi::item::Item;
 use rules::Direction;
 use tree::tree::Tree;
 
+/// The position of the first item wider than two columns.
+fn first_wide(items: &[Item]) -> Option<usize>
+    ensures { result ≡ first_wide_of items.now }
+{
+    items.iter().position(|item| item.width > 2)
+}
+
 /// Refuses items wider than two columns, by the position of the first.
 fn narrow_all(items: &[Item]) -> Result<(), ParagraphFault>
     ensures { verdict result ≡ widths_answer items.now }
 {
-    for (i, item) in items.iter().enumerate() {
-        if item.width > 2 {
-            return Err(ParagraphFault::Wide(i));
-        }
+    match first_wide(items) {
+        Some(position) => Err(ParagraphFault::Wide(position)),
+        None => Ok(()),
     }
-    Ok(())
 }
 
 impl<'t, 'a> Paragraph<'t, 'a> {
@@ -49,13 +54,20 @@ impl<'t, 'a> Paragraph<'t, 'a> {
     {
         let base = self.base();
         let is = self.edges(base, place, place + count);
+        let change = Change {
+            paragraph: self,
+            place,
+            count,
+            was,
+            is,
+        };
         let span = if was.base == base {
-            self.span_by_walk(place, count, was, is)
+            change.span_by_walk()
         } else {
-            self.span_by_scan(place, count, was, is)
+            change.span_by_scan()
         };
         Outcome {
-            count: self.tree.len(),
+            count: self.count(),
             base: base.level(),
             span,
         }

@@ -3,10 +3,12 @@
 #![tactic(auto)]
 
 mod ask;
+mod change;
 mod column;
 mod context;
 mod edit;
 pub mod fault;
+mod level;
 mod order;
 pub mod outcome;
 pub mod paragraph;

@@ -3,25 +3,28 @@
 ghost use Rattle.std.specs.Prelude.{◌≡◌, ◌≤◌, length};
 ghost use Rattle.paragraph.specs.Faults.{verdict};
 ghost use Rattle.paragraph.specs.Ordering.{order_answer, overwritten, ordered, levelled};
-ghost use Rattle.paragraph.specs.Paragraphs.{items_of, base_in, levels_in};
+ghost use Rattle.paragraph.specs.Paragraphs.{items_of, levels_in};
 
 use crate::fault::ParagraphFault;
+use crate::level::Levels;
 use crate::paragraph::Paragraph;
 use bidi::order::order;
-use rules::Side;
 
-impl Paragraph<'_, '_> {
+impl Levels<'_, '_, '_> {
     /// Writes the level of each item.
-    fn write_levels(&self, base: Side, scratch: &mut [u8])
-        requires base { base ≡ base_in self.now }
-        requires room { length (items_of self.now) ≤ length scratch.old }
-        ensures { scratch.new ≡ overwritten (length (levels_in self.now)) (levels_in self.now) scratch.old }
+    fn write_levels(&self, scratch: &mut [u8])
+        requires { length (items_of self.now.paragraph.now) ≤ length scratch.old }
+        ensures { scratch.new ≡ overwritten (length (levels_in self.now.paragraph.now)) (levels_in self.now.paragraph.now) scratch.old }
     {
-        for i in 0..self.tree.len() {
-            scratch[i] = self.level_at(base, i);
+        let count = self.paragraph.count();
+        let front = &mut scratch[0..count];
+        for (place, slot) in front.iter_mut().enumerate() {
+            *slot = self.at(place);
         }
     }
+}
 
+impl Paragraph<'_, '_> {
     /// Writes all places in visual order into the list, and the levels in paragraph order into the scratch. Entries past the items stay.
     pub fn order(&self, list: &mut [usize], scratch: &mut [u8]) -> Result<(), ParagraphFault>
         ensures answer { verdict result ≡ order_answer (length (levels_in self.now)) (length list.old) (length scratch.old) }
@@ -35,7 +38,7 @@ impl Paragraph<'_, '_> {
         if count > scratch.len() {
             return Err(ParagraphFault::Scratch);
         }
-        self.write_levels(self.base(), scratch);
+        self.levels().write_levels(scratch);
         let _ = order(&scratch[0..count], list);
         Ok(())
     }

@@ -1,7 +1,7 @@
 //! The stretch of a paragraph that a change of it changes.
 
-ghost use Rattle.std.specs.Prelude.{◌≡◌};
-ghost use Rattle.paragraph.specs.Spans.{hull as hull_of, SpanIsUnique};
+ghost use Rattle.std.specs.Prelude.{◌≡◌, ◌+◌, ◌<◌, ◌≤◌, ◌^◌};
+ghost use Rattle.paragraph.specs.Spans.{SpanOf, point as point_of, hull as hull_of, SpanIsUnique};
 
 use rules::{Class, Left, Right, Side};
 
@@ -28,6 +28,30 @@ pub(crate) struct Surroundings {
     pub(crate) right: Right,
 }
 
+impl Span {
+    /// The span of one place.
+    pub(crate) fn point(place: usize) -> Span
+        requires { place + 1 < 2 ^ 64 }
+        ensures { Some result ≡ point_of place }
+    {
+        Span {
+            first: place,
+            end: place + 1,
+        }
+    }
+
+    /// The span of a stretch, none where it is empty.
+    pub(crate) fn stretch(first: usize, end: usize) -> Option<Span>
+        ensures { SpanOf (λ i. (first ≤ i) × (i < end)) result }
+    {
+        if first < end {
+            Some(Span { first, end })
+        } else {
+            None
+        }
+    }
+}
+
 /// The span of the places of both.
 pub(crate) fn hull(a: Option<Span>, b: Option<Span>) -> Option<Span>
     ensures { result ≡ hull_of a b }
@@ -35,8 +59,8 @@ pub(crate) fn hull(a: Option<Span>, b: Option<Span>) -> Option<Span>
     let Some(s) = a else { return b };
     let Some(t) = b else { return a };
     Some(Span {
-        first: if t.first < s.first { t.first } else { s.first },
-        end: if s.end < t.end { t.end } else { s.end },
+        first: s.first.min(t.first),
+        end: s.end.max(t.end),
     })
 }
 

@@ -2,6 +2,7 @@ use Rattle.std.proofs.Common.{◌≡◌, ◌-◌, leb, length, take, ap, ◌∙�
 use Rattle.std.proofs.lemmas.List.{take_at}
 use Rattle.std.proofs.lemmas.Bool.{le-leb, cond-true}
 use Rattle.bidi.specs.Ordering.{order_list}
+use Rattle.paragraph.specs.Ordering.{overwritten}
 use Rattle.paragraph.specs.Paragraphs.{items_of, levels_in}
 use Rattle.paragraph.proofs.Levels.{length-levels}
 use Rattle.paragraph.proofs.Orders.{order_short, order_no_scratch, order_done}
@@ -31,10 +32,11 @@ returns c =
     let a = order_done (levels_in p) c.args.list.now c.args.scratch.now (omega arith) (omega arith) in
     let ls = levels_in p in
     let list = c.args.list.now in
+    let levelled = c.write_levels.ensures ∙ ap (λ q. overwritten (length (levels_in q)) (levels_in q) c.args.scratch.now) c.levels.ensures in
     let written : take (c.len-count.result - 0) c.write_levels.new.scratch ≡ ls =
-    ap (take (c.len-count.result - 0)) c.write_levels.ensures ∙ take_at ls _ (c.len-count.result - 0) (omega arith) in
+    ap (take (c.len-count.result - 0)) levelled ∙ take_at ls _ (c.len-count.result - 0) (omega arith) in
     record {
       answer = a.0;
       list = c.order.ensures.list ∙ ap (λ x. order_list x list) written ∙ cond-true (leb (length ls) (length list)) _ _ (le-leb (length ls) (length list) (omega arith)) ∙ a.1;
-      scratch = c.write_levels.ensures ∙ a.2;
+      scratch = levelled ∙ a.2;
     }

@@ -1,6 +1,7 @@
-use Rattle.std.proofs.Common.{◌≡◌, ◌<◌, ◌≤◌, get_or, sym, refl, subst, ⊎_elim, arith}
-use Rattle.std.proofs.lemmas.Bool.{cases_lt}
+use Rattle.std.proofs.Common.{length, refl, ap, subst, arith, rules}
 use Rattle.paragraph.specs.Paragraphs.{items_of, levels_in}
+use Rattle.paragraph.specs.Runs.{RunOf}
+use Rattle.paragraph.proofs.Around.{run_around}
 use Rattle.paragraph.proofs.Levels.{length-levels}
 use Rattle.paragraph.proofs.paragraph.Paragraph.run.Goals as goal
 
@@ -13,22 +14,12 @@ returns-then-place-len c =
 
 pub returns : goal.returns
 returns c =
-    let p = c.args.self.now in
-    let ls = levels_in p in
+    let p = c.levels-levels.result.paragraph.now in
     let place = c.args.place in
+    let level = c.at-level.result in
     let n = length-levels p.direction (items_of p) in
     let all = c.len.ensures.count in
-    let level = c.level_at-level.result in
-    let start = c.run_start-first in
-    let stop = c.run_end-end in
-    let here : get_or ls place 0 ≡ level = sym c.level_at-level.ensures in
-    let w = stop.ensures.from in
-    let v = stop.ensures.within in
-    record {
-      from = start.ensures.within;
-      to = ⊎_elim (λ (h : place < stop.result). h) (λ (h : stop.result ≤ place). let e : place ≡ stop.result = omega arith in absurd (stop.ensures.right (omega arith) (subst (λ k. get_or ls k 0 ≡ level) e here))) (cases_lt place stop.result);
-      ends = omega arith;
-      same = λ i u z. ⊎_elim (λ (h : i < place). start.ensures.same i u h) (λ (h : place ≤ i). stop.ensures.same i h z) (cases_lt i place);
-      left = start.ensures.left;
-      right = λ h e. stop.ensures.right (omega arith) e;
-    }
+    let same = ap (λ q. length (items_of q)) c.levels-levels.ensures in
+    let here = c.at-level.ensures in
+    subst (λ q. RunOf (levels_in q) place (record { first = c.stretch-first.result.first; end = c.stretch-first.result.end; level = level })) c.levels-levels.ensures
+    (run_around (levels_in p) _ place c.stretch-first.result c.stretch-first.ensures (omega arith) (λ h. search rules) level (λ n h. search rules) (λ n h. search rules))
