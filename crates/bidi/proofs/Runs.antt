@@ -3,7 +3,7 @@ use Rattle.std.proofs.Common.{◌≡◌, ℕ, suc, ◌+◌, ◌-◌, ◌<◌, �
 use mathlib.Core.List.{reverse_aux}
 use Rattle.std.specs.List.{prefix_len}
 use Rattle.std.proofs.lemmas.Bool.{le-leb, lt-leb, cases_lt}
-use Rattle.std.proofs.lemmas.List.{drop-drop, drop_at, take_at, take_more, drop_more, get_or-drop, length-append, length-reverse, length-take, length-drop}
+use Rattle.std.proofs.lemmas.List.{take_all, drop_all, drop-drop, drop_at, take_at, take_more, drop_more, get_or-drop, length-append, length-reverse, length-take, length-drop}
 use Rattle.rules.specs.Order.{turned, reversed}
 use Rattle.bidi.specs.Ordering.{at_least}
 use Rattle.rules.proofs.Reversing.{turned_high, turned_low}
@@ -61,7 +61,7 @@ module _ (level : ℕ → ℕ) (k : ℕ) where
         ∙ ap (λ n. take i xs ++ (reverse (take n (drop i xs)) ++ reversed level k (drop m (drop i xs)))) e
         ∙ ap (λ l. take i xs ++ l) (sym (turned_run (drop i xs) []))
 
-    pub low_step : r < length ys → take (r + 1) ys ++ reversed level k (drop (r + 1) ys) ≡ take r ys ++ reversed level k (drop r ys)
+    low_step : r < length ys → take (r + 1) ys ++ reversed level k (drop (r + 1) ys) ≡ take r ys ++ reversed level k (drop r ys)
     low_step lt =
         let m : ℕ = prefix_len (at_least level k) (drop i xs) in
         let same : length ys ≡ length xs = ap length split ∙ length-append done (drop r xs) ∙ omega (arith, long, length-drop r xs) in
@@ -73,3 +73,12 @@ module _ (level : ℕ → ℕ) (k : ℕ) where
         ap (λ l. l ++ reversed level k (drop (r + 1) ys)) (take_more ys r 0 lt)
         ∙ append_assoc (take r ys) (get_or ys r 0 ∷ []) (reversed level k (drop (r + 1) ys))
         ∙ ap (λ l. take r ys ++ l) (sym (turned_low level k [] (get_or ys r 0) (drop (r + 1) ys) low) ∙ ap (reversed level k) (sym (drop_more ys r 0 lt)))
+
+    -- the item that follows the sequence stays where it is
+    pub next_step : take (r + 1) ys ++ reversed level k (drop (r + 1) ys) ≡ take i xs ++ reversed level k (drop i xs)
+    next_step =
+        ⊎_elim
+        (λ lt. low_step lt)
+        (λ le. ap₂ (λ a b. a ++ reversed level k b) (take_all (r + 1) ys (omega arith) ∙ sym (take_all r ys le)) (drop_all (r + 1) ys (omega arith) ∙ sym (drop_all r ys le)))
+        (cases_lt r (length ys))
+        ∙ run_step

@@ -63,7 +63,7 @@ fn pick(menu: u64, k: u8) -> u8
     ensures is { result ≡ picked menu k }
     ensures within { result < 16 }
 {
-    ((menu >> (4 * k as u32)) & 15) as u8
+    ((menu >> u32::from(4 * k)) & 15) as u8
 }
 
 /// The side after two parts, where `strong` is the first one's strong class: the first one's, that of a number, or the second one's.
@@ -73,7 +73,7 @@ fn join_side(strong: u8, a: u8, b: u8) -> u8
     ensures within { result < 16 }
 {
     let number = pick(0x3321, strong);
-    pick(a as u64 + 16 * number as u64 + 0x3200, b)
+    pick(u64::from(a) + 16 * u64::from(number) + 0x3200, b)
 }
 
 /// The kind after two parts, where `strong` is the first one's strong class: the first one's, the second one's own,
@@ -87,11 +87,11 @@ fn join_kind(strong: u8, a: u8, b: u8) -> u8
     let terminator = pick(0x98_9454_4548, a);
     let both = pick(0x4559, strong);
     pick(
-        a as u64
+        u64::from(a)
             + 0x0654_3210
-            + 0x1000_0000 * number as u64
-            + 0x1_0000_0000 * terminator as u64
-            + 0x10_0000_0000 * both as u64,
+            + 0x1000_0000 * u64::from(number)
+            + 0x1_0000_0000 * u64::from(terminator)
+            + 0x10_0000_0000 * u64::from(both),
         b,
     )
 }

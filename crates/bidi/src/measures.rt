@@ -22,7 +22,7 @@ impl Measure<Item> for Columns {
 
     fn of(element: Item) -> Columns {
         Columns {
-            width: element.width as u32,
+            width: u32::from(element.width),
         }
     }
 

@@ -11,26 +11,17 @@ use crate::fault::Fault;
 fn level_of(levels: &[u8], place: usize) -> u8
     ensures { result ≡ number_at levels.now place }
 {
-    if place < levels.len() {
-        levels[place]
-    } else {
-        0
-    }
+    levels.get(place).copied().unwrap_or(0)
 }
 
-/// The end of the unbroken sequence at level k or above that begins at i in the list.
-fn run_end(levels: &[u8], list: &[usize], i: usize, k: u8) -> usize
-    requires { i ≤ length list.now }
-    ensures from { i ≤ result }
+/// How many places from the start of a list are at level k or above, up to the first that is lower.
+fn run_len(levels: &[u8], list: &[usize], k: u8) -> usize
+    ensures is { result ≡ prefix_len (at_least (number_at levels.now) k) list.now }
     ensures within { result ≤ length list.now }
-    ensures run { result ≡ i + prefix_len (at_least (number_at levels.now) k) (drop i list.now) }
 {
-    for j in i..list.len() {
-        if level_of(levels, list[j]) < k {
-            return j;
-        }
-    }
-    list.len()
+    list.iter()
+        .take_while(|place| level_of(levels, **place) >= k)
+        .count()
 }
 
 /// Reverses the unbroken sequence at level k or above that begins at i, and answers where it ends.
@@ -41,7 +32,7 @@ fn turn_run(levels: &[u8], list: &mut [usize], i: usize, k: u8) -> usize
     ensures run { result ≡ i + prefix_len (at_least (number_at levels.now) k) (drop i list.old) }
     ensures list { list.new ≡ take i list.old ++ (reverse (take (result - i) (drop i list.old)) ++ drop result list.old) }
 {
-    let end = run_end(levels, list, i, k);
+    let end = i + run_len(levels, &list[i..], k);
     list[i..end].reverse();
     end
 }
@@ -50,12 +41,10 @@ fn turn_run(levels: &[u8], list: &mut [usize], i: usize, k: u8) -> usize
 fn turn(levels: &[u8], list: &mut [usize], k: u8)
     ensures { list.new ≡ reversed (number_at levels.now) k list.old }
 {
+    // Kept: `for run in list.split_mut(|place| level_of(levels, *place) < k)` was tried, and after it no fact tells what the list holds.
     let mut i = 0;
     while i < list.len() {
-        i = turn_run(levels, list, i, k);
-        if i < list.len() {
-            i += 1;
-        }
+        i = turn_run(levels, list, i, k) + 1;
     }
 }
 
@@ -63,23 +52,15 @@ fn turn(levels: &[u8], list: &mut [usize], k: u8)
 fn highest_of(levels: &[u8]) -> u8
     ensures { result ≡ highest levels.now }
 {
-    let mut top: u8 = 0;
-    for level in levels {
-        if *level > top {
-            top = *level;
-        }
-    }
-    top
+    levels.iter().copied().max().unwrap_or(0)
 }
 
 /// From the highest level down to 1, reverses each unbroken sequence at that level or above.
 fn turn_all(levels: &[u8], list: &mut [usize])
     ensures { list.new ≡ reordered (number_at levels.now) (highest levels.now) list.old }
 {
-    let mut k = highest_of(levels);
-    while k > 0 {
+    for k in (1..=highest_of(levels)).rev() {
         turn(levels, list, k);
-        k -= 1;
     }
 }
 
@@ -87,8 +68,8 @@ fn turn_all(levels: &[u8], list: &mut [usize])
 fn count_up(list: &mut [usize])
     ensures { list.new ≡ places 0 (length list.old) }
 {
-    for i in 0..list.len() {
-        list[i] = i;
+    for (place, slot) in list.iter_mut().enumerate() {
+        *slot = place;
     }
 }
 
@@ -101,7 +82,7 @@ pub fn order(levels: &[u8], list: &mut [usize]) -> Result<(), Fault>
     if n > list.len() {
         return Err(Fault::Short);
     }
-    let part = &mut list[0..n];
+    let part = &mut list[..n];
     count_up(part);
     turn_all(levels, part);
     Ok(())

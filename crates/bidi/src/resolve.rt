@@ -22,6 +22,7 @@ fn gather(items: &[Item], bytes: &mut [u8]) -> u8
 {
     let mut right: u8 = 0;
     let mut strong: u8 = 0;
+    // Kept: over `items.iter().rev().zip(bytes.iter_mut().rev())` the proof didn't close, since no fact then tells what the bytes hold.
     for i in (0..items.len()).rev() {
         bytes[i] = right;
         let class = items[i].class;
@@ -38,10 +39,10 @@ fn settle(base: Side, items: &[Item], bytes: &mut [u8])
 {
     let end = Right::end(base);
     let mut left = Left::start(base);
-    for i in 0..items.len() {
-        let class = items[i].class;
-        bytes[i] = level(base, left, class, before_part(bytes[i], end));
-        left = left.after(class);
+    // Kept: over `bytes.iter_mut().zip(items)` the proof didn't close, since no fact then tells what the bytes hold.
+    for (place, item) in items.iter().enumerate() {
+        bytes[place] = level(base, left, item.class, before_part(bytes[place], end));
+        left = left.after(item.class);
     }
 }
 
@@ -54,7 +55,7 @@ pub fn resolve(direction: Direction, items: &[Item], levels: &mut [u8]) -> Resul
     if n > levels.len() {
         return Err(Fault::Short);
     }
-    let part = &mut levels[0..n];
+    let part = &mut levels[..n];
     let strong = gather(items, part);
     let base = direction.base(strong_at(strong));
     settle(base, items, part);

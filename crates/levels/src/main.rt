@@ -9,16 +9,12 @@ use std::io::Read;
 
 // What the rules make of a line, or why there is nothing to be made of it.
 fn answer(heap: Global, number: usize, line: &str) -> Result<String, AllocError> {
-    match parse(heap, line.as_bytes()) {
-        Ok(paragraph) => match listing(heap, paragraph.direction, paragraph.items.as_slice()) {
-            Ok(text) => Ok(text),
-            Err(refusal) => refused(heap, number, refusal),
-        },
-        Err(refusal) => refused(heap, number, refusal),
-    }
+    parse(heap, line.as_bytes())
+        .and_then(|paragraph| listing(heap, paragraph.direction, paragraph.items.as_slice()))
+        .or_else(|refusal| refused(heap, number, refusal))
 }
 
-fn run(rt: &HostRuntime) -> anyhow::Result<()> {
+fn main(rt: HostRuntime) -> anyhow::Result<()> {
     let mut input = String::new(rt.alloc());
     rt.stdin().read_to_string(&mut input)?;
     for (i, line) in input.lines().enumerate() {
@@ -26,8 +22,4 @@ fn run(rt: &HostRuntime) -> anyhow::Result<()> {
         println!(rt; "{text}")?;
     }
     Ok(())
-}
-
-fn main(rt: HostRuntime) -> anyhow::Result<()> {
-    run(&rt)
 }

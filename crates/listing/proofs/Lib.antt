@@ -1,4 +1,3 @@
 pub mod Spacing
 pub mod Columns
-pub mod Buffers
 pub mod Reading

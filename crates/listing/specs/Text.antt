@@ -10,10 +10,14 @@ use Rattle.bidi.specs.Sums.{held}
 use Rattle.listing.specs.declared.refusal.Refusal.{Refusal}
 use Rattle.listing.specs.declared.refusal.Refusal.TheVariants.{Fields, Direction as no_direction, Item as no_item, Memory}
 
+-- values, each behind a space, by what is written of each
+abbrev pub spaced_texts : {X : Type 0} → (X → List ℕ) → List X → List ℕ
+spaced_texts written [] = []
+spaced_texts written (x ∷ xs) = 32 ∷ (written x ++ spaced_texts written xs)
+
 -- numbers, each behind a space
 abbrev pub spaced : List ℕ → List ℕ
-spaced [] = []
-spaced (n ∷ ns) = 32 ∷ (decimal n ++ spaced ns)
+spaced ns = spaced_texts decimal ns
 
 -- the column of each item
 abbrev pub columns_from : List ℕ → List Item → List ℕ
@@ -28,9 +32,13 @@ listed_from base levels items =
 abbrev pub listed : Direction → List Item → List ℕ
 listed direction items = listed_from (base_level (base_of direction items)) (levels_of direction items) items
 
+-- the words for a refusal
+abbrev pub reason : Refusal → List ℕ
+reason Fields = codes "fields"
+reason no_direction = codes "direction"
+reason (no_item p) = codes "item " ++ decimal p
+reason Memory = codes "memory"
+
 -- a refusal: a mark, the number of the line, and the reason
 abbrev pub refused_text : ℕ → Refusal → List ℕ
-refused_text line Fields = codes "!\t" ++ (decimal line ++ codes "\tfields")
-refused_text line no_direction = codes "!\t" ++ (decimal line ++ codes "\tdirection")
-refused_text line (no_item p) = codes "!\t" ++ (decimal line ++ (codes "\titem " ++ decimal p))
-refused_text line Memory = codes "!\t" ++ (decimal line ++ codes "\tmemory")
+refused_text line refusal = codes "!\t" ++ (decimal line ++ (codes "\t" ++ reason refusal))

@@ -8,13 +8,14 @@ ghost use Rattle.listing.specs.declared.refusal.Refusal.TheVariants.{Memory};
 ghost use Rattle.std.specs.List.{AllByRecursion};
 
 use crate::refusal::Refusal;
-use crate::text::{add_bytes, add_name, add_number, add_places};
+use crate::text::add_numbers;
 use bidi::column::column;
 use bidi::item::Item;
 use bidi::order::order;
 use bidi::resolve::resolve;
 use rules::{Direction, Side};
 use std::alloc::{AllocError, Global};
+use std::fmt::Write;
 
 /// Adds the column of each item, each behind a space.
 fn add_columns(text: &mut String, levels: &[u8], items: &[Item]) -> Result<(), AllocError>
@@ -22,33 +23,32 @@ fn add_columns(text: &mut String, levels: &[u8], items: &[Item]) -> Result<(), A
     ensures { OnOk result (string_bytes text.new ≡ string_bytes text.old ++ spaced (columns_from levels.now items.now)) }
 {
     for place in 0..items.len() {
-        if let Ok(c) = column(levels, items, place) {
-            add_number(text, c as usize)?;
-        }
+        let column = column(levels, items, place).unwrap();
+        write!(text, " {column}")?;
     }
     Ok(())
 }
 
 /// The base direction and the levels of a paragraph.
-fn levels_in(heap: Global, direction: Direction, items: &[Item]) -> Result<(Side, Vec<u8>), Refusal>
-    ensures { MatchResult result (λ p. (p.0 ≡ base_of direction items.now) × (p.1.items ≡ levels_of direction items.now)) (λ e. e ≡ Memory) }
+fn levels_in(
+    heap: Global,
+    direction: Direction,
+    items: &[Item],
+) -> Result<(Side, Vec<u8>), AllocError>
+    ensures { IfOk result (λ p. (p.0 ≡ base_of direction items.now) × (p.1.items ≡ levels_of direction items.now)) }
 {
     let mut levels: Vec<u8> = vec![in heap; 0; items.len()]?;
-    match resolve(direction, items, levels.as_mut_slice()) {
-        Ok(base) => Ok((base, levels)),
-        Err(_) => Err(Refusal::Memory),
-    }
+    let base = resolve(direction, items, levels.as_mut_slice()).unwrap();
+    Ok((base, levels))
 }
 
 /// The places of a paragraph with these levels, in visual order.
-fn order_in(heap: Global, levels: &[u8]) -> Result<Vec<usize>, Refusal>
-    ensures { MatchResult result (λ v. v.items ≡ L2 levels.now) (λ e. e ≡ Memory) }
+fn order_in(heap: Global, levels: &[u8]) -> Result<Vec<usize>, AllocError>
+    ensures { IfOk result (λ v. v.items ≡ L2 levels.now) }
 {
     let mut places: Vec<usize> = vec![in heap; 0; levels.len()]?;
-    match order(levels, places.as_mut_slice()) {
-        Ok(()) => Ok(places),
-        Err(_) => Err(Refusal::Memory),
-    }
+    order(levels, places.as_mut_slice()).unwrap();
+    Ok(places)
 }
 
 /// Adds the base level, the levels, the visual order and the columns, each behind its name.
@@ -62,15 +62,12 @@ fn add_all(
     requires { (length levels.now ≡ length items.now) × ((AllByRecursion (λ l. l ≤ 2) levels.now) × (places.now ≡ L2 levels.now)) }
     ensures { OnOk result (string_bytes text.new ≡ string_bytes text.old ++ listed_from base levels.now items.now) }
 {
-    add_name(text, "base")?;
-    add_bytes(text, &[base])?;
-    add_name(text, "\tlevels")?;
-    add_bytes(text, levels)?;
-    add_name(text, "\torder")?;
-    add_places(text, places)?;
-    add_name(text, "\tcolumns")?;
-    add_columns(text, levels, items)?;
-    Ok(())
+    write!(text, "base {base}\tlevels")?;
+    add_numbers(text, levels)?;
+    write!(text, "\torder")?;
+    add_numbers(text, places)?;
+    write!(text, "\tcolumns")?;
+    add_columns(text, levels, items)
 }
 
 /// The base level, the levels, the visual order and the columns of a paragraph, on one line.
@@ -94,10 +91,5 @@ pub fn listing(heap: Global, direction: Direction, items: &[Item]) -> Result<Str
 pub fn refused(heap: Global, line: usize, refusal: Refusal) -> Result<String, AllocError>
     ensures { IfOk result (λ s. string_bytes s ≡ refused_text line refusal) }
 {
-    match refusal {
-        Refusal::Fields => format!(in heap; "!\t{line}\tfields"),
-        Refusal::Direction => format!(in heap; "!\t{line}\tdirection"),
-        Refusal::Item(position) => format!(in heap; "!\t{line}\titem {position}"),
-        Refusal::Memory => format!(in heap; "!\t{line}\tmemory"),
-    }
+    format!(in heap; "!\t{line}\t{refusal}")
 }

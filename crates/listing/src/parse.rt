@@ -52,19 +52,14 @@ fn class_of(letter: u8) -> Option<Class>
 fn item_of(letter: u8, digit: u8) -> Option<Item>
     ensures { elim result [ None ↦ item_read letter digit ≡ None | Some i ↦ item_read letter digit ≡ Some (reading i) ] }
 {
-    if digit < b'0' {
+    if !digit.is_ascii_digit() {
         return None;
     }
-    if digit > b'9' {
-        return None;
-    }
-    match class_of(letter) {
-        Some(class) => Some(Item {
-            class,
-            width: digit - b'0',
-        }),
-        None => None,
-    }
+    let class = class_of(letter)?;
+    Some(Item {
+        class,
+        width: digit - b'0',
+    })
 }
 
 /// The items of a field.
@@ -72,20 +67,12 @@ fn items_in(heap: Global, bytes: &[u8]) -> Result<Vec<Item>, Refusal>
     ensures { MatchResult result (λ v. items_read 0 bytes.now ≡ Ok (map reading v.items)) (λ e. Refused (items_read 0 bytes.now) e) }
 {
     let mut items: Vec<Item> = Vec::new(heap);
-    let mut i = 0;
-    while i < bytes.len() {
-        if i + 1 >= bytes.len() {
+    for pair in bytes.chunks(2) {
+        let [letter, digit] = pair else {
             return Err(Refusal::Item(items.len()));
-        }
-        match item_of(bytes[i], bytes[i + 1]) {
-            Some(item) => {
-                if items.push(item).is_err() {
-                    return Err(Refusal::Memory);
-                }
-            }
-            None => return Err(Refusal::Item(items.len())),
-        }
-        i += 2;
+        };
+        let item = item_of(*letter, *digit).ok_or(Refusal::Item(items.len()))?;
+        items.push(item)?;
     }
     Ok(items)
 }
@@ -94,17 +81,10 @@ fn items_in(heap: Global, bytes: &[u8]) -> Result<Vec<Item>, Refusal>
 pub fn parse(heap: Global, line: &[u8]) -> Result<Paragraph, Refusal>
     ensures { MatchResult result (λ p. line_read line.now ≡ Ok (p.direction, map reading p.items.items)) (λ e. Refused (line_read line.now) e) }
 {
-    if line.len() < 2 {
+    let [letter, b'\t', field @ ..] = line else {
         return Err(Refusal::Fields);
-    }
-    if line[1] != b'\t' {
-        return Err(Refusal::Fields);
-    }
-    let Some(direction) = direction_of(line[0]) else {
-        return Err(Refusal::Direction);
     };
-    match items_in(heap, &line[2..]) {
-        Ok(items) => Ok(Paragraph { direction, items }),
-        Err(refusal) => Err(refusal),
-    }
+    let direction = direction_of(*letter).ok_or(Refusal::Direction)?;
+    let items = items_in(heap, field)?;
+    Ok(Paragraph { direction, items })
 }

@@ -1,9 +1,10 @@
 //! Why a line is refused.
 
 ghost use Rattle.listing.specs.declared.refusal.Refusal.TheVariants.{Memory};
-ghost use Rattle.std.specs.Prelude.{◌≡◌};
+ghost use Rattle.listing.specs.Text.{reason};
+ghost use Rattle.std.specs.Prelude.{◌≡◌, Some};
 
-use std::alloc::AllocError;
+use std::alloc::{AllocError, AllocFailed};
 use std::fmt;
 
 /// A refusal.
@@ -19,10 +20,31 @@ pub enum Refusal {
     Memory,
 }
 
+impl fmt::Display for Refusal {
+    ghost output = { λ refusal. Some (reason refusal) };
+
+    fn fmt<W: fmt::Write>(&self, f: &mut fmt::Formatter<W>) -> fmt::Result {
+        match self {
+            Refusal::Fields => write!(f, "fields"),
+            Refusal::Direction => write!(f, "direction"),
+            Refusal::Item(position) => write!(f, "item {position}"),
+            Refusal::Memory => write!(f, "memory"),
+        }
+    }
+}
+
 impl From<AllocError> for Refusal {
     ghost from_gives = { λ _ r. r ≡ Memory };
 
     fn from(_error: AllocError) -> Refusal {
+        Refusal::Memory
+    }
+}
+
+impl<T: Drop> From<AllocFailed<T>> for Refusal {
+    ghost from_gives = { λ _ r. r ≡ Memory };
+
+    fn from(_not_stored: AllocFailed<T>) -> Refusal {
         Refusal::Memory
     }
 }

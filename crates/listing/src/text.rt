@@ -1,41 +1,17 @@
-//! Numbers and lists of numbers as text.
+//! Lists of numbers as text.
 
-ghost use Rattle.listing.specs.Text.{spaced};
-ghost use Rattle.std.specs.Prelude.{◌≡◌, ◌∷◌, ◌++◌, string_bytes, decimal, OnOk};
+ghost use Rattle.listing.specs.Text.{spaced_texts};
+ghost use Rattle.std.specs.Prelude.{◌≡◌, ◌++◌, ℕ, List, Some, string_bytes, OnOk};
 
 use std::alloc::AllocError;
-use std::fmt::Write;
+use std::fmt::{Display, Write};
 
-/// Adds a space and a number.
-pub(crate) fn add_number(text: &mut String, n: usize) -> Result<(), AllocError>
-    ensures { OnOk result (string_bytes text.new ≡ string_bytes text.old ++ (32 ∷ decimal n)) }
+/// Adds numbers, each behind a space, where `written` tells the text of each.
+pub(crate) fn add_numbers<N: Display>(text: &mut String, numbers: &[N]) -> Result<(), AllocError>
+    ensures { (written : N → List ℕ) → ((n : N) → N.output n ≡ Some (written n)) → OnOk result (string_bytes text.new ≡ string_bytes text.old ++ spaced_texts written numbers.now) }
 {
-    write!(text, " {n}")
-}
-
-/// Adds a name.
-pub(crate) fn add_name(text: &mut String, name: &str) -> Result<(), AllocError>
-    ensures { OnOk result (string_bytes text.new ≡ string_bytes text.old ++ name.now) }
-{
-    write!(text, "{name}")
-}
-
-/// Adds numbers, each behind a space.
-pub(crate) fn add_bytes(text: &mut String, ns: &[u8]) -> Result<(), AllocError>
-    ensures { OnOk result (string_bytes text.new ≡ string_bytes text.old ++ spaced ns.now) }
-{
-    for n in ns {
-        add_number(text, *n as usize)?;
-    }
-    Ok(())
-}
-
-/// Adds places, each behind a space.
-pub(crate) fn add_places(text: &mut String, ns: &[usize]) -> Result<(), AllocError>
-    ensures { OnOk result (string_bytes text.new ≡ string_bytes text.old ++ spaced ns.now) }
-{
-    for n in ns {
-        add_number(text, *n)?;
+    for number in numbers {
+        write!(text, " {number}")?;
     }
     Ok(())
 }

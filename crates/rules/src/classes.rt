@@ -1,4 +1,6 @@
 // The classes of items, and the direction of a paragraph.
+ghost use Rattle.rules.specs.Classes.{letter};
+ghost use Rattle.rules.specs.Contexts.{strong_of};
 ghost use Rattle.rules.specs.Rules.{P2, base_direction, base_level};
 ghost use Rattle.std.specs.Prelude.{◌≡◌, List};
 
@@ -52,6 +54,30 @@ pub enum Direction {
     Left,
     Right,
     FirstStrong,
+}
+
+// The class of a letter in this direction.
+impl From<Side> for Class {
+    ghost from_gives = { λ side class. class ≡ letter side };
+
+    fn from(side: Side) -> Class {
+        match side {
+            Side::L => Class::L,
+            Side::R => Class::R,
+        }
+    }
+}
+
+// The strong class of a letter in this direction.
+impl From<Side> for Strong {
+    ghost from_gives = { λ side strong. strong ≡ strong_of side };
+
+    fn from(side: Side) -> Strong {
+        match side {
+            Side::L => Strong::L,
+            Side::R => Strong::R,
+        }
+    }
 }
 
 impl Side {

@@ -4,6 +4,7 @@ ghost use Rattle.rules.specs.Contexts.{
   after as left_after,
   before as right_before,
   end as right_end,
+  first_of,
   level_at,
   loose as loose_class,
   number as number_class,
@@ -54,6 +55,18 @@ pub enum First {
     European,
 }
 
+// What follows the last item of a paragraph in this direction.
+impl From<Side> for First {
+    ghost from_gives = { λ side first. first ≡ first_of side };
+
+    fn from(side: Side) -> First {
+        match side {
+            Side::L => First::L,
+            Side::R => First::R,
+        }
+    }
+}
+
 // The next item, whether skipping terminators and marks leads to a European number, and the first strong item or number.
 #[derive(Clone, Copy, PartialEq, Eq)]
 pub struct Right {
@@ -97,12 +110,8 @@ impl Left {
     pub fn start(base: Side) -> Left
         ensures { result ≡ left_start base }
     {
-        let strong = match base {
-            Side::L => Strong::L,
-            Side::R => Strong::R,
-        };
         Left {
-            strong,
+            strong: Strong::from(base),
             side: base,
             kind: Kind::Strong,
         }
@@ -159,14 +168,10 @@ impl Right {
     pub fn end(base: Side) -> Right
         ensures { result ≡ right_end base }
     {
-        let first = match base {
-            Side::L => First::L,
-            Side::R => First::R,
-        };
         Right {
             next: Next::Other,
             leads: false,
-            first,
+            first: First::from(base),
         }
     }
 
@@ -215,15 +220,8 @@ fn between(base: Side, left: Left, right: Right) -> Class
         First::R => Side::R,
         First::European => side_of_number(left.strong),
     };
-    let side = match (left.side, facing) {
-        (Side::L, Side::L) => Side::L,
-        (Side::R, Side::R) => Side::R,
-        _ => base,
-    };
-    match side {
-        Side::L => Class::L,
-        Side::R => Class::R,
-    }
+    let side = if left.side == facing { facing } else { base };
+    Class::from(side)
 }
 
 // The class of a terminator with no European number before it.
@@ -262,10 +260,7 @@ fn settled(base: Side, left: Left, class: Class, right: Right) -> Class
             _ => loose(left.strong, right.leads, neutral),
         },
         Class::NSM => match left.kind {
-            Kind::Strong => match left.strong {
-                Strong::L => Class::L,
-                _ => Class::R,
-            },
+            Kind::Strong => Class::from(side_of_number(left.strong)),
             Kind::European | Kind::Joined => number(left.strong),
             Kind::Arabic => Class::AN,
             Kind::Terminator => loose(left.strong, right.leads, neutral),

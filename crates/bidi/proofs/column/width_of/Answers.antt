@@ -1,13 +1,12 @@
-use Rattle.std.proofs.Common.{◌≡◌, ◌<◌, length, get_or, arith}
-use Rattle.std.proofs.lemmas.List.{get_or-map}
-use Rattle.bidi.specs.Items.{widths}
-use Rattle.bidi.proofs.Walks.{width_more}
+use Rattle.std.proofs.Common.{◌≡◌, ◌+◌, rules, ◌∙◌}
+use Rattle.std.specs.List.{fold}
+use Rattle.std.proofs.iter.runs.Made.{chains}
+use Rattle.bidi.specs.Sums.{held}
+use Rattle.bidi.specs.declared.item.Item.{Item}
+use Rattle.bidi.proofs.Walks.{held_sum}
 use Rattle.bidi.proofs.column.width_of.Goals as goal
 
-pub loop-n-preserved : goal.loop-n-preserved
-loop-n-preserved c =
-    let items = c.args.items.now in
-    let n = c.loop-n.n in
-    let lt : n < length items = omega arith in
-    let here : get_or (widths items) n 0 ≡ (get_or items n c.index-items-n.result).width = get_or-map (λ i. i.width) items n c.index-items-n.result 0 lt in
-    omega (arith, c.loop-n.invariant, here, width_more (widths items) c.args.i n c.loop-n.auto.n)
+pub returns : goal.returns
+returns c =
+    let mirrored : c.fold.result ≡ fold (λ a (i : Item). held (a + i.width)) 0 c.args.items.now = search (rules, chains) in
+    mirrored ∙ held_sum c.args.items.now

@@ -4,6 +4,3 @@ use Rattle.bidi.proofs.order.turn_all.Given as goal
 
 abbrev pub invariant-loop-k : goal.invariant-loop-k
 invariant-loop-k l = reordered (at l.levels) l.k l.list ≡ reordered (at l.levels) (highest l.levels) l.initial.list
-
-abbrev pub decreases-loop-k : goal.decreases-loop-k
-decreases-loop-k l = l.k

@@ -1,4 +1,4 @@
-use Rattle.std.proofs.Common.{◌≡◌, ◌-◌, true, leb, ◌++◌, length, drop, Ok, sym, ap, ◌∙◌, ap₂, arith}
+use Rattle.std.proofs.Common.{◌≡◌, true, leb, ◌++◌, length, drop, Ok, sym, ap, ◌∙◌, arith}
 use Rattle.std.proofs.lemmas.Bool.{le-leb, cond-true}
 use Rattle.rules.specs.Rules.{levels}
 use Rattle.bidi.specs.Actions.{strong_at}
@@ -14,10 +14,9 @@ returns c =
     let fits : leb (length items) (length buffer) ≡ true = le-leb (length items) (length buffer) (omega arith) in
     let base : c.base-base.result ≡ base_of c.args.direction items =
     c.base-base.ensures (classes items) (c.strong_at.ensures ∙ ap strong_at c.gather-strong.ensures.strong ∙ strong_acts items) in
-    let all : length items - 0 ≡ length items = omega arith in
     record {
       answer = ap Ok base ∙ sym (cond-true _ _ _ fits);
       levels =
-          ap₂ ◌++◌ (c.settle.ensures ∙ ap (λ b. levels b (classes items)) base) (ap (λ n. drop n buffer) all)
+          ap (λ l. l ++ drop (length items) buffer) (c.settle.ensures ∙ ap (λ b. levels b (classes items)) base)
           ∙ sym (cond-true _ _ _ fits);
     }

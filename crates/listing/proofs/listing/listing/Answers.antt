@@ -1,10 +1,8 @@
-use Rattle.std.proofs.Common.{◌≡◌, ◌≤◌, ◌++◌, length, sym, ap, ◌∙◌, ap₂}
+use Rattle.std.proofs.Common.{◌≡◌, ◌≤◌, length, sym, ap, ◌∙◌}
 use mathlib.Core.Path.{subst⁻¹}
 use Rattle.std.specs.List.{AllByRecursion}
 use Rattle.std.proofs.lemmas.List.{length-map}
 use Rattle.rules.specs.Order.{L2}
-use Rattle.rules.specs.Rules.{base_level}
-use Rattle.listing.specs.Text.{listed_from}
 use Rattle.rules.proofs.ByContexts.{levels_are_low_lem}
 use Rattle.bidi.specs.Items.{classes}
 use Rattle.bidi.specs.Resolving.{base_of, levels_of}
@@ -20,14 +18,3 @@ add_all-requires c =
       ap length levels ∙ low.0 ∙ length-map items (λ i. i.class),
       (subst⁻¹ (AllByRecursion (λ l. l ≤ 2)) levels low.1, c.as_slice-3.ensures.value ∙ c.in_ok-places.ensures ∙ ap L2 (first ∙ sym levels)),
     )
-
-pub returns : goal.returns
-returns c =
-    let items = c.args.items.now in
-    let direction = c.args.direction in
-    let told = c.in_ok-base.ensures in
-    let base : c.level.result ≡ base_level (base_of direction items) = c.level.ensures ∙ ap base_level told.0 in
-    let levels : c.as_slice-2.result.now ≡ levels_of direction items = c.as_slice-2.ensures.value ∙ told.1 in
-    c.in_ok-add_all.ensures
-    ∙ ap (λ t. t ++ listed_from c.level.result c.as_slice-2.result.now items) c.new-text.ensures.bytes
-    ∙ ap₂ (λ b ls. listed_from b ls items) base levels
