@@ -36,7 +36,6 @@ returns-in_err-narrow_all c =
 
 pub invariant_of-self-2 : goal.invariant_of-self-2
 invariant_of-self-2 c = record {
-  totals = ∥∥₁_map c.args.self.now.totals c.replace.ensures.totals;
   few = subst (λ xs. length xs ≤ 4096) (sym c.replace.ensures.elements) (few_after _ _ _ _ _ c.args.self.now.few);
 }
 
