@@ -9,3 +9,4 @@ pub mod Plain
 pub mod Trees
 pub mod Weights
 pub mod History
+pub mod Recordings

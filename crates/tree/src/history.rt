@@ -3,7 +3,8 @@
 ghost use Rattle.std.specs.Prelude.{◌≡◌, ◌≤◌, map, length, take, drop, OnOk};
 ghost use Rattle.tree.specs.Plain.{numbered, Untouched};
 ghost use Rattle.tree.specs.Trees.{elements_of, capacity_of, depth_in};
-ghost use Rattle.tree.specs.History.{change_answer, after_change, after_all, answers_all, question_answer, short_list, History};
+ghost use Rattle.tree.specs.History.{change_answer, after_change, after_all, answers_all, question_answer, History};
+ghost use Rattle.tree.specs.Recordings.{short_of, SameRecording, SpareEntriesStay, ListsUntouched};
 
 use crate::fault::Fault;
 use crate::measure::Measure;
@@ -31,7 +32,7 @@ pub struct Recording<'c, 'a, C, O, Q, A> {
 impl<C, O, Q, A> Recording<'_, '_, C, O, Q, A> {
     /// Refuses a list that is too short for its answers, that of the changes first.
     pub fn fits(&self) -> Result<(), Unrecorded>
-        ensures { result ≡ short_list (length self.now.changes.now) (length self.now.outcomes.now) (length self.now.questions.now) (length self.now.answers.now) }
+        ensures { result ≡ short_of self.now }
     {
         if self.outcomes.len() < self.changes.len() {
             return Err(Unrecorded::Outcomes);
@@ -91,10 +92,11 @@ impl<E: Copy, T: Measure<E>> Tree<'_, E, T> {
 
     /// Empties the tree, carries out the changes, then answers the questions. What each was answered is written to the two lists, whose further entries stay.
     pub fn history(&mut self, recording: &mut TreeRecording<'_, '_, E, T>) -> Result<(), Unrecorded>
-        ensures answer { result ≡ short_list (length recording.old.changes.now) (length recording.old.outcomes.now) (length recording.old.questions.now) (length recording.old.answers.now) }
+        ensures answer { result ≡ short_of recording.old }
+        ensures same { SameRecording recording.old recording.new }
         ensures law { OnOk result (History T.ops (capacity_of self.old) recording.old.changes.now recording.new.outcomes.now recording.old.questions.now recording.new.answers.now self.new) }
-        ensures spare { OnOk result ((drop (length recording.old.changes.now) recording.new.outcomes.now ≡ drop (length recording.old.changes.now) recording.old.outcomes.now) × (drop (length recording.old.questions.now) recording.new.answers.now ≡ drop (length recording.old.questions.now) recording.old.answers.now)) }
-        ensures refused { Untouched result self.old self.new × Untouched result recording.old.outcomes.now recording.new.outcomes.now × Untouched result recording.old.answers.now recording.new.answers.now }
+        ensures spare { OnOk result (SpareEntriesStay recording.old recording.new) }
+        ensures refused { Untouched result self.old self.new × ListsUntouched result recording.old recording.new }
     {
         recording.fits()?;
         self.clear();

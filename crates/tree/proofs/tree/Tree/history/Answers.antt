@@ -1,4 +1,4 @@
-use Rattle.std.proofs.Common.{◌≡◌, ◌-◌, ◌^◌, ◌≤◌, [], map, length, sym, ap, ◌∙◌, subst}
+use Rattle.std.proofs.Common.{◌≡◌, ◌-◌, ◌^◌, ◌≤◌, [], map, length, sym, refl, ap, ◌∙◌, subst}
 use Rattle.tree.specs.History.{after_all, answers_all, question_answer}
 use Rattle.tree.specs.Trees.{shape, elements_of, capacity_of, depth_in, RowsSound, TotalsRight, least, places_at}
 use Rattle.tree.proofs.Facts.{deep_enough, sparse_enough}
@@ -17,6 +17,7 @@ returns g c =
     c.change_all.ensures.elements ∙ ap (λ r. after_all r (elements_of c.clear.new.self) changes) c.clear.ensures.capacity ∙ ap (λ xs. after_all room xs changes) c.clear.ensures.elements in
     record {
       answer = sym c.in_ok-fits.was ∙ c.fits.ensures;
+      same = (refl, refl, refl, refl);
       law = record {
         answered = c.change_all.ensures.answered ∙ ap (λ r. answers_all r (elements_of c.clear.new.self) changes) c.clear.ensures.capacity ∙ ap (λ xs. answers_all room xs changes) c.clear.ensures.elements;
         held = held;
@@ -27,5 +28,5 @@ returns g c =
         sparse = λ d. subst (λ xs. places_at (depth_in tree) d (length xs) ≤ 2 ^ (d - 1)) held (sparse_enough {h = tree.heads} tree.sound d);
       };
       spare = (c.change_all.ensures.spare, c.ask_all.ensures.spare);
-      refused = (tt, tt, tt);
+      refused = (tt, (tt, tt));
     }
