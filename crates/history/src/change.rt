@@ -2,8 +2,8 @@
 
 ghost use Rattle.std.specs.Prelude.{◌≡◌, ◌≤◌, length, take, drop};
 ghost use Rattle.std.specs.List.{between};
-ghost use Rattle.paragraph.specs.Paragraphs.{room_of};
-ghost use Rattle.history.specs.Plain.{plain_of, after_change, after_all, Answer, Answered};
+ghost use Rattle.paragraph.specs.Paragraphs.{room_of, plain_of};
+ghost use Rattle.history.specs.Plain.{after_change, after_all, Answer, Answered};
 
 use crate::request::Change;
 use bidi::item::Item;
