@@ -36,6 +36,7 @@ pub(crate) fn ask_all(
     ensures told { map numbered (take (length questions.now) answers.new) ≡ map (question_answer (plain_of paragraph.now) (depth_in paragraph.now.tree.now)) questions.now }
     ensures spare { drop (length questions.now) answers.new ≡ drop (length questions.now) answers.old }
 {
+    // Kept: tried over `answers.iter_mut().zip(questions)`; what the slots hold after the loop stayed open.
     for (i, question) in questions.iter().enumerate() {
         answers[i] = ask(paragraph, *question);
     }
