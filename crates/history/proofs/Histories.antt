@@ -3,7 +3,8 @@ use Rattle.std.proofs.Common.{◌≡◌, ℕ, List, [], ◌∷◌, ◌++◌, len
 use Rattle.bidi.specs.declared.item.Item.{Item}
 use Rattle.paragraph.specs.declared.fault.ParagraphFault.{ParagraphFault}
 use Rattle.paragraph.specs.declared.outcome.Outcome.{Outcome}
-use Rattle.history.specs.Plain.{Plain, after_change, after_all, Answer, Answered}
+use Rattle.paragraph.specs.Plain.{Plain}
+use Rattle.history.specs.Plain.{after_change, after_all, Answer, Answered}
 use Rattle.history.specs.declared.request.Change.{Change}
 
 module _ (room : ℕ) (recorded : List Item) where

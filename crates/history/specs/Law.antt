@@ -16,7 +16,9 @@ use Rattle.paragraph.specs.Faults.{numbered}
 use Rattle.paragraph.specs.declared.fault.ParagraphFault.{ParagraphFault}
 use Rattle.paragraph.specs.declared.outcome.Outcome.{Outcome}
 use Rattle.paragraph.specs.declared.paragraph.Paragraph.{Paragraph}
-use Rattle.history.specs.Plain.{Plain, plain_of, after_all, Answered}
+use Rattle.paragraph.specs.Plain.{Plain}
+use Rattle.paragraph.specs.Paragraphs.{plain_of}
+use Rattle.history.specs.Plain.{after_all, Answered}
 use Rattle.history.specs.Questions.{question_answer}
 use Rattle.history.specs.declared.request.Change.{Change}
 use Rattle.history.specs.declared.request.Question.{Question}

@@ -1,32 +1,16 @@
--- The plain paragraph: a direction and items. What it answers to a change, and what it then is.
+-- What the plain paragraph answers to a recorded change, and what it then is.
 use Rattle.std.specs.Prelude.{◌≡◌, ℕ, List, [], ◌∷◌, length, IfOk, Ok, Result}
 use Rattle.std.specs.List.{between}
 use Rattle.rules.specs.Rules.{base_level}
-use Rattle.rules.specs.declared.classes.Direction.{Direction}
-use Rattle.bidi.specs.Resolving.{base_of, levels_of}
+use Rattle.bidi.specs.Resolving.{base_of}
 use Rattle.bidi.specs.declared.item.Item.{Item}
 use Rattle.paragraph.specs.Faults.{Refusal, verdict}
-use Rattle.paragraph.specs.Paragraphs.{items_of}
-use Rattle.paragraph.specs.Plain.{edit_answer, after_edit}
+use Rattle.paragraph.specs.Plain.{Plain, levels_of_plain, edit_answer, edited, turned}
 use Rattle.paragraph.specs.Spans.{Changed, SpanOf}
 use Rattle.paragraph.specs.declared.fault.ParagraphFault.{ParagraphFault}
 use Rattle.paragraph.specs.declared.outcome.Outcome.{Outcome}
-use Rattle.paragraph.specs.declared.paragraph.Paragraph.{Paragraph}
 use Rattle.history.specs.declared.request.Change.{Change}
 use Rattle.history.specs.declared.request.Change.TheVariants.{Edit, Turn}
-
--- a direction and items
-pub record Plain : Type 0 where
-  pub direction : Direction
-  pub items : List Item
-
--- what a paragraph is, plainly
-abbrev pub plain_of : Paragraph → Plain
-plain_of p = record { direction = p.direction; items = items_of p }
-
--- its levels by the rules
-abbrev pub levels_of_plain : Plain → List ℕ
-levels_of_plain p = levels_of p.direction p.items
 
 -- whether it accepts a change, whose new items are among the recorded ones, or how it refuses it
 abbrev pub change_verdict : ℕ → List Item → Plain → Change → Result (Unit {0}) Refusal
@@ -35,8 +19,8 @@ change_verdict room recorded p (Turn d) = Ok tt
 
 -- what it then is
 abbrev pub after_change : ℕ → List Item → Plain → Change → Plain
-after_change room recorded p (Edit place removed first end) = record { direction = p.direction; items = after_edit room p.items place removed (between first end recorded) }
-after_change room recorded p (Turn d) = record { direction = d; items = p.items }
+after_change room recorded p (Edit place removed first end) = edited room p place removed (between first end recorded)
+after_change room recorded p (Turn d) = turned p d
 
 -- place i has a new item, or one whose level is unlike its former one, after a change of one plain paragraph to the other
 abbrev pub Differs : List Item → Plain → Plain → Change → ℕ → Type 0

@@ -3,7 +3,7 @@ use Rattle.std.specs.Prelude.{ℕ, Ok, Err, Result}
 use Rattle.bidi.specs.Items.{widths}
 use Rattle.paragraph.specs.Asking.{level_answer, column_answer}
 use Rattle.paragraph.specs.Faults.{Refusal}
-use Rattle.history.specs.Plain.{Plain, levels_of_plain}
+use Rattle.paragraph.specs.Plain.{Plain, levels_of_plain}
 use Rattle.history.specs.declared.request.Question.{Question}
 use Rattle.history.specs.declared.request.Question.TheVariants.{Level as ask_level, Column as ask_column}
 use Rattle.history.specs.declared.request.Told.{Told}

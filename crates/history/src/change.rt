@@ -2,8 +2,8 @@
 
 ghost use Rattle.std.specs.Prelude.{◌≡◌, ◌≤◌, length, take, drop};
 ghost use Rattle.std.specs.List.{between};
-ghost use Rattle.paragraph.specs.Paragraphs.{room_of};
-ghost use Rattle.history.specs.Plain.{plain_of, after_change, after_all, Answer, Answered};
+ghost use Rattle.paragraph.specs.Paragraphs.{room_of, plain_of};
+ghost use Rattle.history.specs.Plain.{after_change, after_all, Answer, Answered};
 
 use crate::request::Change;
 use bidi::item::Item;
@@ -53,6 +53,7 @@ pub(crate) fn change_all(
     ensures answered { Answered (room_of paragraph.old) recorded.now (plain_of paragraph.old) changes.now (take (length changes.now) outcomes.new) }
     ensures spare { drop (length changes.now) outcomes.new ≡ drop (length changes.now) outcomes.old }
 {
+    // Kept: as in ask_all, over `outcomes.iter_mut().zip(changes)` what the slots hold after the loop stayed open.
     for (i, next) in changes.iter().enumerate() {
         outcomes[i] = change(paragraph, recorded, *next);
     }

@@ -3,7 +3,7 @@
 ghost use Rattle.std.specs.Prelude.{◌≡◌, ◌≤◌, map, length, take, drop};
 ghost use Rattle.tree.specs.Trees.{depth_in};
 ghost use Rattle.paragraph.specs.Faults.{numbered};
-ghost use Rattle.history.specs.Plain.{plain_of};
+ghost use Rattle.paragraph.specs.Paragraphs.{plain_of};
 ghost use Rattle.history.specs.Questions.{question_answer};
 
 use crate::request::{Question, Told};
@@ -15,14 +15,14 @@ fn ask(paragraph: &Paragraph<'_, '_>, question: Question) -> Result<Told, Paragr
     ensures { numbered result ≡ question_answer (plain_of paragraph.now) (depth_in paragraph.now.tree.now) question }
 {
     match question {
-        Question::Level { place } => match paragraph.level(place) {
-            Ok((level, depth)) => Ok(Told::Level(level, depth)),
-            Err(fault) => Err(fault),
-        },
-        Question::Column { place } => match paragraph.column(place) {
-            Ok((column, width)) => Ok(Told::Column(column, width)),
-            Err(fault) => Err(fault),
-        },
+        Question::Level { place } => {
+            let (level, depth) = paragraph.level(place)?;
+            Ok(Told::Level(level, depth))
+        }
+        Question::Column { place } => {
+            let (column, width) = paragraph.column(place)?;
+            Ok(Told::Column(column, width))
+        }
     }
 }
 
@@ -36,6 +36,7 @@ pub(crate) fn ask_all(
     ensures told { map numbered (take (length questions.now) answers.new) ≡ map (question_answer (plain_of paragraph.now) (depth_in paragraph.now.tree.now)) questions.now }
     ensures spare { drop (length questions.now) answers.new ≡ drop (length questions.now) answers.old }
 {
+    // Kept: tried over `answers.iter_mut().zip(questions)`; what the slots hold after the loop stayed open.
     for (i, question) in questions.iter().enumerate() {
         answers[i] = ask(paragraph, *question);
     }

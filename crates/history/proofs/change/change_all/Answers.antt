@@ -1,8 +1,8 @@
 use Rattle.std.proofs.Common.{◌≡◌, ◌+◌, [], ◌∷◌, ◌++◌, length, get_or, take, drop, set, sym, ap, ◌∙◌, subst, arith}
 use Rattle.std.proofs.lemmas.List.{take_more, take_more_set, take_all, length-take-le}
 use Rattle.tree.proofs.Histories.{spare_more}
-use Rattle.paragraph.specs.Paragraphs.{room_of}
-use Rattle.history.specs.Plain.{plain_of, after_change, after_all, Answer, Answered}
+use Rattle.paragraph.specs.Paragraphs.{room_of, plain_of}
+use Rattle.history.specs.Plain.{after_change, after_all, Answer, Answered}
 use Rattle.history.specs.declared.request.Change.TheVariants.{Edit}
 use Rattle.history.proofs.Histories.{after_more, answered_more}
 use Rattle.history.proofs.change.change_all.Goals as goal

@@ -1,6 +1,6 @@
 use Rattle.std.proofs.Common.{◌≡◌, take, drop}
-use Rattle.paragraph.specs.Paragraphs.{room_of}
-use Rattle.history.specs.Plain.{plain_of, after_all, Answered}
+use Rattle.paragraph.specs.Paragraphs.{room_of, plain_of}
+use Rattle.history.specs.Plain.{after_all, Answered}
 use Rattle.history.proofs.change.change_all.Given as goal
 
 abbrev pub invariant-loop-i : goal.invariant-loop-i

@@ -1,9 +1,10 @@
 use Rattle.std.proofs.Common.{◌≡◌, ltb, map, length, take, sym, ap, ◌∙◌, subst}
 use Rattle.std.proofs.lemmas.Bool.{le-ltb, cond-false}
 use Rattle.tree.specs.Trees.{depth_in}
-use Rattle.paragraph.specs.Paragraphs.{room_of}
+use Rattle.paragraph.specs.Paragraphs.{room_of, plain_of}
 use Rattle.history.specs.Law.{empty}
-use Rattle.history.specs.Plain.{Plain, plain_of, after_all, Answered}
+use Rattle.paragraph.specs.Plain.{Plain}
+use Rattle.history.specs.Plain.{after_all, Answered}
 use Rattle.history.specs.Questions.{question_answer}
 use Rattle.history.proofs.Depths.{deep_in, sparse_in}
 use Rattle.history.proofs.history.paragraph_history.Goals as goal

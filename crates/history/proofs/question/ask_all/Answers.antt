@@ -3,7 +3,7 @@ use Rattle.std.proofs.lemmas.List.{take_more, take_all, map-append}
 use Rattle.tree.specs.Trees.{depth_in}
 use Rattle.tree.proofs.Histories.{mapped_more, spare_more}
 use Rattle.paragraph.specs.Faults.{numbered}
-use Rattle.history.specs.Plain.{plain_of}
+use Rattle.paragraph.specs.Paragraphs.{plain_of}
 use Rattle.history.specs.Questions.{question_answer}
 use Rattle.history.specs.declared.request.Question.TheVariants.{Level}
 use Rattle.history.proofs.question.ask_all.Goals as goal

@@ -1,7 +1,7 @@
 use Rattle.std.proofs.Common.{◌≡◌, map, take, drop}
 use Rattle.tree.specs.Trees.{depth_in}
 use Rattle.paragraph.specs.Faults.{numbered}
-use Rattle.history.specs.Plain.{plain_of}
+use Rattle.paragraph.specs.Paragraphs.{plain_of}
 use Rattle.history.specs.Questions.{question_answer}
 use Rattle.history.proofs.question.ask_all.Given as goal
 
