@@ -1,11 +1,13 @@
 -- The law over whole histories.
-use Rattle.std.specs.Prelude.{◌≡◌, ℕ, ◌-◌, ◌^◌, ◌<◌, ◌≤◌, cond, List, [], map, length, take, Err, Option, Result, nat_lt}
-use Rattle.tree.specs.History.{History, short_list}
+use Rattle.std.specs.Prelude.{◌≡◌, ℕ, ◌-◌, ◌^◌, ◌<◌, ◌≤◌, List, [], map, length, take, Ok, Err, Option, Result}
+use Rattle.tree.specs.History.{History}
+use Rattle.tree.specs.Recordings.{short_of}
 use Rattle.tree.specs.Measures.{Operations}
 use Rattle.tree.specs.Trees.{depth_in, least, places_at}
 use Rattle.tree.specs.declared.fault.Fault.{Fault}
 use Rattle.tree.specs.declared.history.Unrecorded.{Unrecorded}
-use Rattle.tree.specs.declared.history.Unrecorded.TheVariants.{Outcomes, Answers}
+use Rattle.tree.specs.declared.history.Recording.{Recording}
+use Rattle.tree.specs.declared.measure.Measure.{Ghosts}
 use Rattle.tree.specs.declared.request.Change.{Change as TreeChange}
 use Rattle.tree.specs.declared.request.Question.{Question as TreeQuestion}
 use Rattle.tree.specs.declared.request.Told.{Told as TreeTold}
@@ -41,12 +43,16 @@ pub record ParagraphHistory (room : ℕ) (direction : Direction) (recorded : Lis
   pub deep : (place : ℕ) → place < length (after_all room recorded (empty direction) changes).items → least (depth_in p.tree.now place) ≤ length (after_all room recorded (empty direction) changes).items
   pub sparse : (d : ℕ) → places_at (depth_in p.tree.now) d (length (after_all room recorded (empty direction) changes).items) ≤ 2 ^ (d - 1)
 
+-- the first of two answers where it is a refusal, else the second
+abbrev pub earlier_refusal : {X E : Type 0} → Result X E → Result X E → Result X E
+earlier_refusal (Ok x) b = b
+earlier_refusal (Err e) b = Err e
+
 -- the list that is too short for its answers: those of the paragraph are looked at first
-abbrev pub shortest : ℕ → ℕ → ℕ → ℕ → ℕ → ℕ → ℕ → ℕ → Result (Unit {0}) Unrecorded
-shortest tree_changes tree_outcomes tree_questions tree_answers changes outcomes questions answers =
-    cond (nat_lt outcomes changes) (Err Outcomes) (cond (nat_lt answers questions) (Err Answers) (short_list tree_changes tree_outcomes tree_questions tree_answers))
+abbrev pub shortest : {C O Q A D P R B : Type 0} → Recording C O Q A → Recording D P R B → Result (Unit {0}) Unrecorded
+shortest tree_calls calls = earlier_refusal (short_of calls) (short_of tree_calls)
 
 -- The law: of a tree, for every lawful measure, and of a paragraph, each begun empty, changed by any list of calls and asked any list of questions.
-pub record Law {E T : Type 0} (k : Operations E T) (room : ℕ) (tree_changes : List (TreeChange E)) (tree_outcomes : List (Result (Option E) Fault)) (tree_questions : List TreeQuestion) (tree_answers : List (Result (TreeTold E T) Fault)) (tree : Tree E T) (paragraph_room : ℕ) (direction : Direction) (recorded : List Item) (changes : List Change) (outcomes : List (Result Outcome ParagraphFault)) (questions : List Question) (answers : List (Result Told ParagraphFault)) (paragraph : Paragraph) : Type 0 where
+pub record Law {E T : Type 0} {g : Ghosts T E} (k : Operations E T) (room : ℕ) (tree_changes : List (TreeChange E)) (tree_outcomes : List (Result (Option E) Fault)) (tree_questions : List TreeQuestion) (tree_answers : List (Result (TreeTold E T) Fault)) (tree : Tree E T g) (paragraph_room : ℕ) (direction : Direction) (recorded : List Item) (changes : List Change) (outcomes : List (Result Outcome ParagraphFault)) (questions : List Question) (answers : List (Result Told ParagraphFault)) (paragraph : Paragraph) : Type 0 where
   pub of_tree : History k room tree_changes tree_outcomes tree_questions tree_answers tree
   pub of_paragraph : ParagraphHistory paragraph_room direction recorded changes outcomes questions answers paragraph

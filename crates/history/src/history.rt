@@ -1,17 +1,15 @@
 //! Any list of changes to an empty paragraph, then any list of questions about it.
 
-ghost use Rattle.std.specs.Prelude.{◌≡◌, [], length, drop, OnOk};
-ghost use Rattle.tree.specs.History.{short_list};
+ghost use Rattle.std.specs.Prelude.{◌≡◌, [], OnOk};
 ghost use Rattle.tree.specs.Plain.{Untouched};
+ghost use Rattle.tree.specs.Recordings.{short_of, SameRecording, SpareEntriesStay, ListsUntouched};
 ghost use Rattle.paragraph.specs.Paragraphs.{items_of, room_of};
 ghost use Rattle.history.specs.Law.{ParagraphHistory};
 
 use crate::change::change_all;
 use crate::question::ask_all;
-use crate::request::{Change, Question, Told};
+use crate::request::ParagraphRecording;
 use bidi::item::Item;
-use paragraph::fault::ParagraphFault;
-use paragraph::outcome::Outcome;
 use paragraph::paragraph::Paragraph;
 use rules::Direction;
 use tree::history::Unrecorded;
@@ -31,24 +29,17 @@ pub fn paragraph_history(
     paragraph: &mut Paragraph<'_, '_>,
     direction: Direction,
     recorded: &[Item],
-    changes: &[Change],
-    outcomes: &mut [Result<Outcome, ParagraphFault>],
-    questions: &[Question],
-    answers: &mut [Result<Told, ParagraphFault>],
+    recording: &mut ParagraphRecording<'_, '_>,
 ) -> Result<(), Unrecorded>
-    ensures answer { result ≡ short_list (length changes.now) (length outcomes.old) (length questions.now) (length answers.old) }
-    ensures law { OnOk result (ParagraphHistory (room_of paragraph.old) direction recorded.now changes.now outcomes.new questions.now answers.new paragraph.new) }
-    ensures spare { OnOk result ((drop (length changes.now) outcomes.new ≡ drop (length changes.now) outcomes.old) × (drop (length questions.now) answers.new ≡ drop (length questions.now) answers.old)) }
-    ensures refused { Untouched result paragraph.old paragraph.new × Untouched result outcomes.old outcomes.new × Untouched result answers.old answers.new }
+    ensures answer { result ≡ short_of recording.old }
+    ensures same { SameRecording recording.old recording.new }
+    ensures law { OnOk result (ParagraphHistory (room_of paragraph.old) direction recorded.now recording.old.changes.now recording.new.outcomes.now recording.old.questions.now recording.new.answers.now paragraph.new) }
+    ensures spare { OnOk result (SpareEntriesStay recording.old recording.new) }
+    ensures refused { Untouched result paragraph.old paragraph.new × ListsUntouched result recording.old recording.new }
 {
-    if outcomes.len() < changes.len() {
-        return Err(Unrecorded::Outcomes);
-    }
-    if answers.len() < questions.len() {
-        return Err(Unrecorded::Answers);
-    }
+    recording.fits()?;
     empty_out(paragraph, direction);
-    change_all(paragraph, recorded, changes, outcomes);
-    ask_all(paragraph, questions, answers);
+    change_all(paragraph, recorded, recording.changes, recording.outcomes);
+    ask_all(paragraph, recording.questions, recording.answers);
     Ok(())
 }

@@ -1,6 +1,9 @@
 //! Calls on a paragraph as values, so that a list of them can be recorded and run.
 
+use paragraph::fault::ParagraphFault;
+use paragraph::outcome::Outcome;
 use rules::Direction;
+use tree::history::Recording;
 
 /// A call that changes a paragraph.
 #[derive(Clone, Copy)]
@@ -35,3 +38,13 @@ pub enum Told {
     /// A column, and the item's width.
     Column(u32, u8),
 }
+
+/// The recording of a history of a paragraph.
+pub type ParagraphRecording<'c, 'a> = Recording<
+    'c,
+    'a,
+    Change,
+    Result<Outcome, ParagraphFault>,
+    Question,
+    Result<Told, ParagraphFault>,
+>;

@@ -1,5 +1,4 @@
-use Rattle.std.proofs.Common.{◌≡◌, ltb, map, length, take, sym, ap, ◌∙◌, subst}
-use Rattle.std.proofs.lemmas.Bool.{le-ltb, cond-false}
+use Rattle.std.proofs.Common.{◌≡◌, map, length, take, sym, refl, ap, ◌∙◌, subst}
 use Rattle.tree.specs.Trees.{depth_in}
 use Rattle.paragraph.specs.Paragraphs.{room_of, plain_of}
 use Rattle.history.specs.Law.{empty}
@@ -13,8 +12,8 @@ pub returns : goal.returns
 returns c =
     let room = room_of c.args.paragraph.now in
     let recorded = c.args.recorded.now in
-    let changes = c.args.changes.now in
-    let questions = c.args.questions.now in
+    let changes = c.args.recording.now.changes.now in
+    let questions = c.args.recording.now.questions.now in
     let emptied = c.empty_out.new.paragraph in
     let p = c.change_all.new.paragraph in
     let told = take (length changes) c.change_all.new.outcomes in
@@ -24,9 +23,8 @@ returns c =
     c.change_all.ensures.plain ∙ ap (λ n. after_all n recorded (plain_of emptied) changes) same ∙ ap (λ q. after_all room recorded q changes) start in
     let items = ap (λ (q : Plain). q.items) plain in
     record {
-      answer =
-          sym (cond-false (ltb (length c.args.outcomes.now) (length changes)) _ _ (le-ltb (length c.args.outcomes.now) (length changes) c.if-outcomes-changes.false)
-          ∙ cond-false (ltb (length c.args.answers.now) (length questions)) _ _ (le-ltb (length c.args.answers.now) (length questions) c.if-answers-questions.false));
+      answer = sym c.in_ok-fits.was ∙ c.fits.ensures;
+      same = (refl, refl, refl, refl);
       law = record {
         answered = subst (λ q. Answered room recorded q changes told) start (subst (λ n. Answered n recorded (plain_of emptied) changes told) same c.change_all.ensures.answered);
         plain = plain;
@@ -35,5 +33,5 @@ returns c =
         sparse = sparse_in p _ items;
       };
       spare = (c.change_all.ensures.spare, c.ask_all.ensures.spare);
-      refused = (tt, tt, tt);
+      refused = (tt, (tt, tt));
     }
