@@ -9,15 +9,35 @@ use rules::Direction;
 
 const SEED: u64 = 20261118;
 
+/// Makes a call so many times, each told how many came before it, and adds up what was told.
+fn sum_of<F: FnMut(usize) -> usize>(calls: usize, mut call: F) -> usize
+    requires { F.IsAlwaysCallable call }
+{
+    let mut sum = 0usize;
+    for i in 0..calls {
+        sum = sum.wrapping_add(call(i));
+    }
+    sum
+}
+
 /// The places of the span that a call was answered, added up.
 fn told(answer: Result<Outcome, ParagraphFault>) -> usize {
     let Ok(outcome) = answer else {
         return 0;
     };
-    match outcome.span {
-        Some(span) => span.first.wrapping_add(span.end),
-        None => 0,
-    }
+    outcome
+        .span
+        .map_or(0, |span| span.first.wrapping_add(span.end))
+}
+
+/// Puts one item of the text in the place of so many.
+fn put_one(
+    paragraph: &mut Paragraph<'_, '_>,
+    place: usize,
+    removed: usize,
+    item: Option<&Item>,
+) -> usize {
+    item.map_or(0, |item| told(paragraph.edit(place, removed, &[*item])))
 }
 
 /// Replaces one item by one of the text, at many places.
@@ -27,67 +47,47 @@ pub(crate) fn replace_each(
     calls: usize,
 ) -> usize {
     let mut numbers = Numbers { state: SEED };
-    let mut sum = 0usize;
-    for _ in 0..calls {
+    sum_of(calls, |_| {
         let place = numbers.below(text.len());
         let from = numbers.below(text.len());
-        if let Some(item) = text.get(from) {
-            sum = sum.wrapping_add(told(paragraph.edit(place, 1, &[*item])));
-        }
-    }
-    sum
-}
-
-fn remove_one(paragraph: &mut Paragraph<'_, '_>, place: usize) -> usize {
-    told(paragraph.edit(place, 1, &[]))
+        put_one(paragraph, place, 1, text.get(from))
+    })
 }
 
 /// Removes one item of a paragraph of so many, many times.
 pub(crate) fn remove_each(paragraph: &mut Paragraph<'_, '_>, count: usize, calls: usize) -> usize {
     let mut numbers = Numbers { state: SEED };
-    let mut sum = 0usize;
-    for i in 0..calls {
+    sum_of(calls, |i| {
         let place = numbers.below(count.saturating_sub(i));
-        sum = sum.wrapping_add(remove_one(paragraph, place));
-    }
-    sum
+        told(paragraph.edit(place, 1, &[]))
+    })
 }
 
 /// Inserts one item of the text, at many places.
 pub(crate) fn insert_each(paragraph: &mut Paragraph<'_, '_>, text: &[Item], calls: usize) -> usize {
     let mut numbers = Numbers { state: SEED };
-    let mut sum = 0usize;
-    for i in 0..calls {
+    sum_of(calls, |i| {
         let place = numbers.below(text.len().saturating_sub(calls.saturating_sub(i)));
         let from = numbers.below(text.len());
-        if let Some(item) = text.get(from) {
-            sum = sum.wrapping_add(told(paragraph.edit(place, 0, &[*item])));
-        }
-    }
-    sum
+        put_one(paragraph, place, 0, text.get(from))
+    })
 }
 
 /// Turns the base level to and fro.
 pub(crate) fn turn_each(paragraph: &mut Paragraph<'_, '_>, calls: usize) -> usize {
-    let mut sum = 0usize;
-    for i in 0..calls {
+    sum_of(calls, |i| {
         let direction = if i % 2 == 0 {
             Direction::Right
         } else {
             Direction::Left
         };
-        sum = sum.wrapping_add(told(Ok(paragraph.turn(direction))));
-    }
-    sum
+        told(Ok(paragraph.turn(direction)))
+    })
 }
 
 /// Replaces all items by the text, in one edit each time.
 pub(crate) fn open_each(paragraph: &mut Paragraph<'_, '_>, text: &[Item], calls: usize) -> usize {
-    let mut sum = 0usize;
-    for _ in 0..calls {
-        sum = sum.wrapping_add(told(paragraph.edit(0, text.len(), text)));
-    }
-    sum
+    sum_of(calls, |_| told(paragraph.edit(0, text.len(), text)))
 }
 
 /// Asks for the order of the whole paragraph, many times.
@@ -97,36 +97,26 @@ pub(crate) fn order_each(
     scratch: &mut [u8],
     calls: usize,
 ) -> usize {
-    let mut sum = 0usize;
-    for _ in 0..calls {
+    sum_of(calls, |_| {
         let _ = paragraph.order(list, scratch);
-        if let Some(first) = list.first() {
-            sum = sum.wrapping_add(*first);
-        }
-    }
-    sum
+        list.first().copied().unwrap_or(0)
+    })
 }
 
 /// Asks for the level of one item, at many places.
 pub(crate) fn ask_levels(paragraph: &Paragraph<'_, '_>, count: usize, calls: usize) -> usize {
     let mut numbers = Numbers { state: SEED };
-    let mut sum = 0usize;
-    for _ in 0..calls {
-        if let Ok((level, _)) = paragraph.level(numbers.below(count)) {
-            sum = sum.wrapping_add(level as usize);
-        }
-    }
-    sum
+    sum_of(calls, |_| {
+        let level = paragraph.level(numbers.below(count));
+        level.map_or(0, |told| usize::from(told.0))
+    })
 }
 
 /// Asks for the column of one item, at many places.
 pub(crate) fn ask_columns(paragraph: &Paragraph<'_, '_>, count: usize, calls: usize) -> usize {
     let mut numbers = Numbers { state: SEED };
-    let mut sum = 0usize;
-    for _ in 0..calls {
-        if let Ok((column, _)) = paragraph.column(numbers.below(count)) {
-            sum = sum.wrapping_add(column as usize);
-        }
-    }
-    sum
+    sum_of(calls, |_| {
+        let column = paragraph.column(numbers.below(count));
+        column.map_or(0, |told| told.0 as usize)
+    })
 }

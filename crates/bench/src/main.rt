@@ -94,22 +94,16 @@ fn time_questions(rt: &HostRuntime, direction: Direction, text: &[Item]) -> anyh
     Ok(())
 }
 
-fn run(rt: &HostRuntime) -> anyhow::Result<()> {
-    if env::args(rt)?.count() < 2 {
+fn main(rt: HostRuntime) -> anyhow::Result<()> {
+    if env::args(&rt)?.count() < 2 {
         println!(rt; "bench: give a case, and a text on standard input")?;
         return Ok(());
     }
     let mut input = Vec::new(rt.alloc());
     let _ = rt.stdin().read_to_end(&mut input)?;
-    match parse(rt.alloc(), input.as_slice()) {
-        Ok(text) => {
-            time_corrections(rt, text.direction, text.items.as_slice())?;
-            time_questions(rt, text.direction, text.items.as_slice())
-        }
-        Err(_) => Err(anyhow!("bench: the text is no direction and items")),
-    }
-}
-
-fn main(rt: HostRuntime) -> anyhow::Result<()> {
-    run(&rt)
+    let Ok(text) = parse(rt.alloc(), input.as_slice()) else {
+        return Err(anyhow!("bench: the text is no direction and items"));
+    };
+    time_corrections(&rt, text.direction, text.items.as_slice())?;
+    time_questions(&rt, text.direction, text.items.as_slice())
 }
