@@ -34,64 +34,77 @@ const BLANK: Item = Item {
     width: 1,
 };
 
-/// Prints how long a case took since the clock was started.
-fn report(
+/// Runs a case, and prints how long it took and what it was told.
+fn time<F: FnOnce() -> usize>(
     rt: &HostRuntime,
     case: &str,
     items: usize,
     calls: usize,
-    start: Instant,
-    sum: usize,
-) -> anyhow::Result<()> {
+    run: F,
+) -> anyhow::Result<()>
+    requires { F.IsAlwaysCallable run }
+{
+    let start = Instant::now(rt)?;
+    let sum = run();
     let nanos = start.elapsed(rt)?.as_nanos();
     println!(rt; "{case}\t{items}\t{calls}\t{nanos}\t{sum}")?;
     Ok(())
 }
 
 /// Times corrections to a paragraph of these items.
-fn time_corrections(rt: &HostRuntime, direction: Direction, text: &[Item]) -> anyhow::Result<()> {
+fn time_corrections(
+    rt: &HostRuntime,
+    paragraph: &mut Paragraph<'_, '_>,
+    text: &[Item],
+) -> anyhow::Result<()> {
     let count = text.len();
-    let mut rows: [Row<Item, Total>; 4096] = [Row::new(BLANK); 4096];
-    let mut tree = Tree::open(&mut rows);
-    let mut paragraph = Paragraph::open(&mut tree, direction);
-    let _ = paragraph.edit(0, 0, text);
-    let start = Instant::now(rt)?;
-    let sum = replace_each(&mut paragraph, text, CORRECTIONS);
-    report(rt, "replace", count, CORRECTIONS, start, sum)?;
-    let start = Instant::now(rt)?;
-    let sum = remove_each(&mut paragraph, count, count / 4);
-    report(rt, "remove", count, count / 4, start, sum)?;
-    let start = Instant::now(rt)?;
-    let sum = insert_each(&mut paragraph, text, count / 4);
-    report(rt, "insert", count, count / 4, start, sum)?;
-    let start = Instant::now(rt)?;
-    let sum = turn_each(&mut paragraph, WHOLES);
-    report(rt, "turn", count, WHOLES, start, sum)?;
-    Ok(())
+    let some = count / 4;
+    time(rt, "replace", count, CORRECTIONS, || {
+        replace_each(paragraph, text, CORRECTIONS)
+    })?;
+    time(rt, "remove", count, some, || {
+        remove_each(paragraph, count, some)
+    })?;
+    time(rt, "insert", count, some, || {
+        insert_each(paragraph, text, some)
+    })?;
+    time(rt, "turn", count, WHOLES, || turn_each(paragraph, WHOLES))
 }
 
 /// Times questions to a paragraph of these items, and opening it.
-fn time_questions(rt: &HostRuntime, direction: Direction, text: &[Item]) -> anyhow::Result<()> {
+fn time_questions(
+    rt: &HostRuntime,
+    paragraph: &mut Paragraph<'_, '_>,
+    text: &[Item],
+) -> anyhow::Result<()> {
     let count = text.len();
+    let mut list = [0usize; 4096];
+    let mut scratch = [0u8; 4096];
+    time(rt, "order", count, WHOLES, || {
+        order_each(paragraph, &mut list, &mut scratch, WHOLES)
+    })?;
+    time(rt, "level", count, CORRECTIONS, || {
+        ask_levels(paragraph, count, CORRECTIONS)
+    })?;
+    time(rt, "column", count, CORRECTIONS, || {
+        ask_columns(paragraph, count, CORRECTIONS)
+    })?;
+    time(rt, "open", count, WHOLES, || {
+        open_each(paragraph, text, WHOLES)
+    })
+}
+
+/// Times all calls of a paragraph of these items.
+fn time_all(rt: &HostRuntime, direction: Direction, text: &[Item]) -> anyhow::Result<()> {
     let mut rows: [Row<Item, Total>; 4096] = [Row::new(BLANK); 4096];
     let mut tree = Tree::open(&mut rows);
     let mut paragraph = Paragraph::open(&mut tree, direction);
     let _ = paragraph.edit(0, 0, text);
-    let mut list = [0usize; 4096];
-    let mut scratch = [0u8; 4096];
-    let start = Instant::now(rt)?;
-    let sum = order_each(&paragraph, &mut list, &mut scratch, WHOLES);
-    report(rt, "order", count, WHOLES, start, sum)?;
-    let start = Instant::now(rt)?;
-    let sum = ask_levels(&paragraph, count, CORRECTIONS);
-    report(rt, "level", count, CORRECTIONS, start, sum)?;
-    let start = Instant::now(rt)?;
-    let sum = ask_columns(&paragraph, count, CORRECTIONS);
-    report(rt, "column", count, CORRECTIONS, start, sum)?;
-    let start = Instant::now(rt)?;
-    let sum = open_each(&mut paragraph, text, WHOLES);
-    report(rt, "open", count, WHOLES, start, sum)?;
-    Ok(())
+    time_corrections(rt, &mut paragraph, text)?;
+    // as many items as before, which the corrections have changed
+    let _ = paragraph.turn(direction);
+    let _ = paragraph.edit(0, text.len(), text);
+    time_questions(rt, &mut paragraph, text)
 }
 
 fn main(rt: HostRuntime) -> anyhow::Result<()> {
@@ -104,6 +117,5 @@ fn main(rt: HostRuntime) -> anyhow::Result<()> {
     let Ok(text) = parse(rt.alloc(), input.as_slice()) else {
         return Err(anyhow!("bench: the text is no direction and items"));
     };
-    time_corrections(&rt, text.direction, text.items.as_slice())?;
-    time_questions(&rt, text.direction, text.items.as_slice())
+    time_all(&rt, text.direction, text.items.as_slice())
 }
