@@ -6,7 +6,7 @@ use Rattle.std.proofs.lemmas.List.{length-take-le}
 use Rattle.std.proofs.lemmas.Bool.{cases_lt}
 use Rattle.tree.specs.Building.{Even, Built}
 use Rattle.tree.specs.Measures.{Operations}
-use Rattle.tree.specs.Shapes.{Shape, leaf, node, tall, size, elements, uses, one, Whole}
+use Rattle.tree.specs.Shapes.{Shape, leaf, node, tall, size, elements, uses, one}
 use Rattle.tree.specs.Surgery.{joined, Split, Becomes}
 use Rattle.tree.specs.declared.row.Row.{Row}
 use Rattle.tree.proofs.Held.{tall_size}
@@ -139,21 +139,3 @@ module _ {E T : Type 0} (k : Operations E T) (xs : List E) where
           even = even_node a m x _ b l.even r.even (omega arith) (omega arith);
           totals = (refl, l.totals, r.totals);
         }
-
--- a tree built of all elements
-pub whole_built : {E T : Type 0} (k : Operations E T) {old rows : List (Row E T)} {root : Option ℕ} (xs : List E) (s : Shape E T) → Built k old rows xs 0 (length xs) root s → length xs ≤ length rows → length xs ≤ 4096 → Whole rows root None (length xs) (length xs) s []
-whole_built k xs s b long few =
-    let m = b.many in
-    record {
-      under = b.becomes.under;
-      balance = b.even.balance;
-      pool = record {
-        chain = refl;
-        apart = λ n. let u = b.once n in omega arith;
-        low = λ n h. let u = b.behind n h in omega arith;
-        tallied = omega arith;
-        long = long;
-        small = few;
-      };
-      counted = omega arith;
-    }

@@ -4,9 +4,8 @@ use mathlib.Core.Logic.{∥∥₁_elim}
 use native.Mathlib.Bridge.{le_prop}
 use Rattle.std.specs.List.{slice_get}
 use Rattle.tree.specs.declared.row.Row.{Row}
-use Rattle.tree.specs.Measures.{Operations}
 use Rattle.tree.specs.Shapes.{Shape, leaf, node, tall, size, elements, row_of, Under}
-use Rattle.tree.specs.Surgery.{height_at, row_height, part_of}
+use Rattle.tree.specs.Surgery.{height_at, row_height}
 
 pub nth_within : {X : Type 0} (xs : List X) (i : ℕ) (x : X) → slice_get xs i ≡ Some x → i < length xs
 nth_within [] i x e = let z : ◌≡◌ {A = ℕ} 0 1 = cc in omega arith
@@ -83,13 +82,6 @@ module _ {E T : Type 0} {rows : List (Row E T)} {link : Option ℕ} where
   pub no_more : link ≡ None → (s : Shape E T) → Under rows link s → size s ≡ 0
   no_more is leaf w = refl
   no_more is (node a n e t b) w = let l = w.linked in let z : ◌≡◌ {A = ℕ} 0 1 = cc in absurd (omega arith)
-
-  pub empty_part : (k : Operations E T) (s : Shape E T) → link ≡ None → Under rows link s → part_of k s ≡ record { height = 0; count = 0; total = k.unit }
-  empty_part k leaf is w = refl
-  empty_part k (node a n e t b) is w = let l = w.linked in let z : ◌≡◌ {A = ℕ} 0 1 = cc in absurd (omega arith)
-
-pub row_same : {E T : Type 0} {l l' r r' : Option ℕ} {h h' c c' : ℕ} {t t' : T} (e : E) → l ≡ l' → r ≡ r' → h ≡ h' → c ≡ c' → t ≡ t' → ◌≡◌ {A = Row E T} (record { element = e; left = l; right = r; height = h; count = c; total = t }) (record { element = e; left = l'; right = r'; height = h'; count = c'; total = t' })
-row_same e p q x y z = cc
 
 pub tall_size : {E T : Type 0} (s : Shape E T) → tall s ≤ size s
 tall_size leaf = omega arith

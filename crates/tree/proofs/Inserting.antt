@@ -1,10 +1,10 @@
 -- Inserting, over shapes and over rows. Assumes nothing.
-use Rattle.std.proofs.Common.{◌≡◌, ℕ, ◌+◌, ◌-◌, ◌<◌, ◌≤◌, ltb, leb, List, length, None, Option, sym, refl, ap, ◌∙◌, subst, arith}
-use Rattle.std.proofs.lemmas.Bool.{le-leb, lt-leb, lt-ltb, le-ltb, cond-true, cond-false}
+use Rattle.std.proofs.Common.{◌≡◌, ℕ, ◌+◌, ◌-◌, ◌<◌, ◌≤◌, leb, List, length, None, Option, sym, refl, ap, ◌∙◌, subst, arith}
+use Rattle.std.proofs.lemmas.Bool.{le-leb, lt-leb, cond-true, cond-false}
 use Rattle.tree.specs.declared.row.Row.{Row}
 use Rattle.tree.specs.Measures.{Operations}
-use Rattle.tree.specs.Shapes.{Shape, leaf, node, tall, size, uses, one}
-use Rattle.tree.specs.Surgery.{joined, Split, Becomes, Fresh, rotate_right, rotate_left, rebalanced, inserted_at}
+use Rattle.tree.specs.Shapes.{Shape, leaf, node, size, uses, one}
+use Rattle.tree.specs.Surgery.{joined, Split, Becomes, Fresh, rebalanced, inserted_at}
 use Rattle.tree.proofs.Held.{Opened}
 use Rattle.tree.proofs.Writing.{spared, after}
 use Rattle.tree.proofs.Shaping.{alike, more}
@@ -83,13 +83,3 @@ module _ {E T : Type 0} (k : Operations E T) {rows : List (Row E T)} {link : Opt
   pub done_first : (s : Shape E T) (x : E) → link ≡ None → Fresh rows link place fresh s → inserted_at k s place fresh x ≡ joined k leaf fresh x leaf
   done_first leaf x is w = refl
   done_first (node a i e t b) x is w = let h = w.under.linked in let z : ◌≡◌ {A = ℕ} 0 1 = cc in absurd (omega arith)
-
-module _ {E T : Type 0} (k : Operations E T) (a : Shape E T) (i : ℕ) (e : E) (b : Shape E T) where
-  pub to_right : tall b + 1 < tall a → rebalanced k a i e b ≡ rotate_right k a i e b
-  to_right h = cond-true (ltb (tall b + 1) (tall a)) _ _ (lt-ltb _ _ h)
-
-  pub to_left : tall a ≤ tall b + 1 → tall a + 1 < tall b → rebalanced k a i e b ≡ rotate_left k a i e b
-  to_left h h' = cond-false (ltb (tall b + 1) (tall a)) _ _ (le-ltb _ _ h) ∙ cond-true (ltb (tall a + 1) (tall b)) _ _ (lt-ltb _ _ h')
-
-  pub to_none : tall a ≤ tall b + 1 → tall b ≤ tall a + 1 → rebalanced k a i e b ≡ joined k a i e b
-  to_none h h' = cond-false (ltb (tall b + 1) (tall a)) _ _ (le-ltb _ _ h) ∙ cond-false (ltb (tall a + 1) (tall b)) _ _ (le-ltb _ _ h')

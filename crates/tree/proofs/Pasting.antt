@@ -4,10 +4,6 @@ use Rattle.std.proofs.lemmas.List.{length-take-le, take_all, drop_all}
 use Rattle.std.proofs.lemmas.Bool.{cases_lt}
 use Rattle.tree.specs.Plain.{copied}
 
-pub nothing_of : {E : Type 0} (xs : List E) → length xs ≡ 0 → xs ≡ []
-nothing_of [] h = refl
-nothing_of (x ∷ xs) h = absurd (omega arith)
-
 -- one element written at the front
 pub front_set : {E : Type 0} (xs : List E) (x : E) → 0 < length xs → take 1 (set xs 0 x) ≡ x ∷ []
 front_set [] x h = absurd (omega arith)

@@ -1,9 +1,9 @@
 -- What the plain list answers, case by case, and what it then holds.
-use Rattle.std.proofs.Common.{◌≡◌, ℕ, ◌+◌, ◌-◌, ◌<◌, ◌≤◌, true, false, ltb, leb, List, length, Some, Ok, Err, sym, ap, ◌∙◌}
+use Rattle.std.proofs.Common.{◌≡◌, ℕ, ◌<◌, ◌≤◌, true, false, ltb, leb, List, length, Some, Ok, Err, sym, ap, ◌∙◌}
 use Rattle.std.specs.List.{slice_get, insert, remove}
 use Rattle.std.proofs.lemmas.Option.{slice_get_past}
-use Rattle.std.proofs.lemmas.Bool.{lt-ltb, le-ltb, le-leb, lt-leb, cond-true, cond-false, and_left, and_right, and_from}
-use Rattle.tree.specs.Plain.{accepted, found, with_depth, fits, insert_answer, after_insert, remove_answer, after_remove, spliced, replace_answer, after_replace}
+use Rattle.std.proofs.lemmas.Bool.{lt-ltb, le-ltb, le-leb, lt-leb, cond-true, cond-false, and_right, and_from}
+use Rattle.tree.specs.Plain.{accepted, found, with_depth, fits, insert_answer, after_insert, remove_answer, after_remove}
 
 module _ {E : Type 0} (room : ℕ) (xs : List E) (p : ℕ) (x : E) where
   pub insert_no_place : length xs < p → (Err 1 ≡ insert_answer room xs p) × (xs ≡ after_insert room xs p x)
@@ -32,18 +32,8 @@ module _ {E : Type 0} (xs : List E) (p : ℕ) where
   read_found x d e h is = sym (ap (λ o. with_depth d (found o)) h ∙ ap (λ n. Ok (x, n)) is)
 
 module _ {E : Type 0} (xs : List E) (first end : ℕ) where
-  pub fits_not_ordered : end < first → fits xs first end ≡ false
-  fits_not_ordered h = and_left (leb first end) (leb end (length xs)) (lt-leb first end h)
-
   pub fits_not_within : length xs < end → fits xs first end ≡ false
   fits_not_within h = and_right (leb first end) (leb end (length xs)) (lt-leb end (length xs) h)
 
   pub fits_both : first ≤ end → end ≤ length xs → fits xs first end ≡ true
   fits_both h h' = and_from (leb first end) (leb end (length xs)) (le-leb first end h) (le-leb end (length xs) h')
-
-  module _ (room : ℕ) (ys : List E) where
-    pub replace_fits : first ≤ end → end ≤ length xs → length xs - (end - first) + length ys ≤ room → (Ok tt ≡ replace_answer room xs first end ys) × (spliced xs first end ys ≡ after_replace room xs first end ys)
-    replace_fits h h' r =
-        let n = length xs - (end - first) + length ys in
-        let a = cond-true (fits xs first end) _ (Err 3) (fits_both h h') ∙ cond-false (ltb room n) (Err 2) (Ok tt) (le-ltb room n r) in
-        (sym a, sym (ap (λ q. accepted q (spliced xs first end ys) xs) a))

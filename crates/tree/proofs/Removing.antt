@@ -1,5 +1,5 @@
 -- Removing, over shapes and over rows. Assumes nothing.
-use Rattle.std.proofs.Common.{◌≡◌, ℕ, suc, ◌+◌, ◌-◌, ◌<◌, ◌≤◌, eqb, ltb, List, length, Some, None, Option, sym, refl, ap, ◌∙◌, subst, ⊎_elim, arith}
+use Rattle.std.proofs.Common.{◌≡◌, ℕ, suc, ◌+◌, ◌-◌, ◌<◌, ◌≤◌, eqb, ltb, List, length, Some, Option, sym, refl, ap, ◌∙◌, subst, ⊎_elim, arith}
 use Rattle.std.specs.List.{slice_get}
 use Rattle.std.proofs.lemmas.Bool.{cases_eq, cases_lt, cond_both, cond-true, cond-false, lt-ltb, le-ltb, eq-eqb, ne_eqb}
 use Rattle.tree.specs.declared.row.Row.{Row}
@@ -28,11 +28,6 @@ module _ {E T : Type 0} (k : Operations E T) where
         many = let p = r.many in let q = m.many in omega arith;
       }
 
-  -- the row has no row to its right
-  pub rest_here : {rows : List (Row E T)} {link : Option ℕ} (a : Shape E T) (i : ℕ) (e : E) (t : T) (b : Shape E T) → link ≡ None → Under rows link b → (rest k (node a i e t b) ≡ a) × (last_row i b ≡ i) × (last_of e b ≡ e)
-  rest_here a i e t leaf is w = (refl, refl, refl)
-  rest_here a i e t (node c j f u g) is w = let l = w.linked in let z : ◌≡◌ {A = ℕ} 0 1 = cc in absurd (omega arith)
-
   rest_there : {rows : List (Row E T)} {link : Option ℕ} {j : ℕ} (a : Shape E T) (i : ℕ) (e : E) (t : T) (b : Shape E T) → link ≡ Some j → Under rows link b → rest k (node a i e t b) ≡ rebalanced k a i e (rest k b)
   rest_there a i e t leaf is w = let l = w.linked in let z : ◌≡◌ {A = ℕ} 0 1 = cc in absurd (omega arith)
   rest_there a i e t (node c j f u g) is w = refl
@@ -47,11 +42,6 @@ module _ {E T : Type 0} (k : Operations E T) where
 
     pub loose_left : Loose rows row.left o.a
     loose_left = record { under = o.left; apart = λ n. let p = w.apart n in let q = ap (λ x. uses x n) o.is in omega arith }
-
-    pub kept_left : row.right ≡ None → Becomes rows rows row.left (rest k s)
-    kept_left is =
-        subst (Becomes rows rows row.left) (sym (ap (rest k) o.is ∙ (rest_here o.a i row.element row.total o.b is o.right).0))
-        (record { under = o.left; kept = λ n z. refl })
 
     pub level_rest : {mid : List (Row E T)} {l : Option ℕ} {j : ℕ} → row.right ≡ Some j → length mid ≡ length rows → Becomes rows mid l (rest k o.b) → Split mid row.left i l o.a (rest k o.b)
     level_rest is long t =
@@ -73,11 +63,6 @@ module _ {E T : Type 0} (k : Operations E T) where
         subst (Becomes rows last r) (sym (ap (rest k) o.is ∙ rest_there o.a i row.element row.total o.b is o.right))
         (after _ t v (λ n z. let q = m.rows n in omega arith))
 
-    pub named_here : (n : ℕ) (d : E) → row.right ≡ None → (i ≡ last_row n s) × (row.element ≡ last_of d s)
-    named_here n d is =
-        let h = rest_here o.a i row.element row.total o.b is o.right in
-        (sym (ap (last_row n) o.is ∙ h.1), sym (ap (last_of d) o.is ∙ h.2))
-
 -- a row in use lies within the rows
 pub used_within : {E T : Type 0} (rows : List (Row E T)) (s : Shape E T) (n : ℕ) → Rep rows s → 0 < uses s n → n < length rows
 used_within rows leaf n h p = absurd (omega arith)
@@ -87,10 +72,6 @@ used_within rows (node a i e t b) n h p =
     (λ other. let o = one_else i n other in used_within rows b n h.2 (omega arith)) (cases_eq i n)) (cases_lt 0 (uses a n))
 
 module _ {E T : Type 0} (k : Operations E T) {rows : List (Row E T)} where
-  pub merge_none : {left right : Option ℕ} (a b : Shape E T) → left ≡ None → Sides rows left right a b → Becomes rows rows right (merged k a b)
-  merge_none leaf b is w = record { under = w.on_right; kept = λ n z. refl }
-  merge_none (node a i e t c) b is w = let l = w.on_left.linked in let z : ◌≡◌ {A = ℕ} 0 1 = cc in absurd (omega arith)
-
   pub sides_loose : {left right : Option ℕ} {a b : Shape E T} → Sides rows left right a b → Loose rows left a
   sides_loose w = record { under = w.on_left; apart = λ n. let p = w.apart n in omega arith }
 

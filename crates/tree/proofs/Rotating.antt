@@ -91,10 +91,6 @@ pub right_of_none : {E T : Type 0} (k : Operations E T) {rows : List (Row E T)} 
 right_of_none k i e leaf b is w = refl
 right_of_none k i e (node c l f t d) b is w = let h = w.linked in let z : ◌≡◌ {A = ℕ} 0 1 = cc in absurd (omega arith)
 
-pub double_of_none : {E T : Type 0} {rows : List (Row E T)} {link : Option ℕ} {n : ℕ} (d : Shape E T) → link ≡ None → Under rows link d → n < tall d → ⊥
-double_of_none leaf is w h = omega arith
-double_of_none (node c l f t d) is w h = let p = w.linked in let z : ◌≡◌ {A = ℕ} 0 1 = cc in omega arith
-
 -- the same to the left
 module _ {E T : Type 0} (k : Operations E T) {rows : List (Row E T)} {left right : Option ℕ} {i l : ℕ} {row : Row E T} {a b : Shape E T} (w : Split rows left i right a b) (o : Opened rows l row b) where
   lparts : (n : ℕ) → uses a n + one i n + uses o.a n + one l n + uses o.b n ≤ 1

@@ -1,5 +1,5 @@
 -- Another element at a place, over shapes, rows and lists.
-use Rattle.std.proofs.Common.{◌≡◌, ℕ, zero, suc, ◌+◌, ◌-◌, ◌<◌, ◌≤◌, eqb, ltb, List, [], ◌∷◌, ◌++◌, length, get_or, take, drop, set, Some, Option, sym, refl, ap, ◌∙◌, subst, append_assoc, arith, length-append, length-drop}
+use Rattle.std.proofs.Common.{◌≡◌, ℕ, zero, suc, ◌+◌, ◌-◌, ◌<◌, ◌≤◌, eqb, ltb, List, [], ◌∷◌, ◌++◌, length, get_or, take, drop, set, Some, Option, sym, refl, ap, ◌∙◌, subst, append_assoc, arith, length-drop}
 use Rattle.std.proofs.lemmas.List.{drop-drop, take_more, length-take-le, set_split}
 use Rattle.std.proofs.lemmas.Bool.{ltb-true, ltb-false, eqb-true, eqb-false, lt-ltb, le-ltb, eq-eqb, ne_eqb, cond-true, cond-false, cond_both}
 use Rattle.tree.specs.declared.row.Row.{Row}
@@ -165,12 +165,3 @@ set_more xs ys p i d at y h l is e =
     ∙ ap (λ m. a ++ m)
     (set_right b rest i 0 y (omega arith) ∙ ap (λ m. b ++ m) (set_split rest 0 y (omega arith) ∙ ap (λ m. y ∷ m) (drop-drop 1 (p + i) xs)) ∙ sym (append_assoc b (y ∷ []) (drop (p + i + 1) xs))
     ∙ ap (λ m. m ++ drop (p + i + 1) xs) (ap (λ z. b ++ (z ∷ [])) is ∙ sym (take_more ys i d l)) ∙ ap (λ n. take (i + 1) ys ++ drop n xs) end)
-
-pub length-written : {E : Type 0} (xs ys : List E) (p i : ℕ) → p + length ys ≤ length xs → i ≤ length ys → length (spliced xs p (p + i) (take i ys)) ≡ length xs
-length-written xs ys p i h l =
-    let a = length-append (take p xs) (take i ys ++ drop (p + i) xs) in
-    let b = length-append (take i ys) (drop (p + i) xs) in
-    let c = length-take-le p xs (omega arith) in
-    let d = length-take-le i ys l in
-    let e = length-drop (p + i) xs in
-    omega arith

@@ -2,7 +2,7 @@
 use Rattle.std.proofs.Common.{◌≡◌, ℕ, zero, suc, ◌+◌, ◌-◌, ◌<◌, ◌≤◌, List, [], ◌∷◌, ◌++◌, length, get_or, take, drop, Some, sym, refl, ap, ◌∙◌, ap₂, append_assoc, arith, length-append, length-drop}
 use Rattle.std.specs.List.{slice_get, between}
 use Rattle.std.proofs.lemmas.Slice.{between_to_end}
-use Rattle.std.proofs.lemmas.List.{take_at, drop_at, drop-drop, take_more, take-append-drop, length-take-le, drop_all, append-nil}
+use Rattle.std.proofs.lemmas.List.{take_at, drop_at, drop-drop, take_more, take-append-drop, length-take-le}
 use Rattle.tree.specs.Plain.{after_remove, after_insert, spliced}
 use Rattle.tree.proofs.Plains.{remove_found, insert_fits}
 use Rattle.tree.proofs.Stretches.{take_past, drop_past}
@@ -48,10 +48,6 @@ module _ {E : Type 0} (room : ℕ) (xs ys : List E) (p i : ℕ) (h : p ≤ lengt
       ∙ append_assoc (take p xs) (take i ys) (y ∷ drop p xs)
       ∙ ap (λ l. take p xs ++ l) (sym (append_assoc (take i ys) (y ∷ []) (drop p xs)) ∙ ap (λ l. l ++ drop p xs) (ap (λ x. take i ys ++ (x ∷ [])) is ∙ sym (take_more ys i d h')))
 
--- nothing taken out, and nothing put in
-pub splice_none : {E : Type 0} (xs : List E) (p : ℕ) → xs ≡ spliced xs p p []
-splice_none xs p = sym (take-append-drop p xs)
-
 -- what is taken out first and put in then is a splice
 pub splice_splice : {E : Type 0} (xs ys : List E) (first end : ℕ) → first ≤ length xs → spliced (spliced xs first end []) first first ys ≡ spliced xs first end ys
 splice_splice xs ys first end h =
@@ -85,7 +81,3 @@ length-splice xs ys first end h h' =
     let c = length-take-le first xs (omega arith) in
     let d = length-drop end xs in
     omega arith
-
--- all elements replaced
-pub splice_all : {E : Type 0} (xs ys : List E) (first end : ℕ) → first ≡ 0 → length xs ≤ end → ys ≡ spliced xs first end ys
-splice_all xs ys first end h h' = sym (ap (λ n. take n xs ++ (ys ++ drop end xs)) h ∙ ap (λ l. ys ++ l) (drop_all end xs h') ∙ append-nil ys)

@@ -10,11 +10,6 @@ use Rattle.tree.proofs.Reading.{lower}
 use Rattle.tree.proofs.Sides.{around_left, around_here, around_right}
 use Rattle.tree.proofs.around.around_below.Goals as goal
 
-pub loop-link-init : goal.loop-link-init
-loop-link-init g c = λ s w u.
-    let k = g.T.Measure.ops in
-    (s, w, (u, λ r a. subst (λ x. Around k s c.args.target k.unit x r) c.unit-behind.ensures (subst (λ x. Around k s c.args.target x c.unit-behind.result r) c.unit-before.ensures a)))
-
 -- the part that the way down has come to is there, whichever shape the rows hold
 module _ {E T : Type 0} {k : Operations E T} {rows : List (Row E T)} {root link : Option ℕ} {target place : ℕ} {before behind : T} (some : ∥ ((s : Shape E T) × Under rows root s × (target < size s)) ∥₁) (way : (s : Shape E T) → Under rows root s → target < size s → Descends k rows s target link place before behind) where
   come : ∥ ((s : Shape E T) × Under rows link s × (place < size s)) ∥₁

@@ -1,9 +1,7 @@
-use Rattle.std.proofs.Common.{◌≤◌, sym, ap, subst, arith}
+use Rattle.std.proofs.Common.{◌≤◌, ap, arith}
 use mathlib.Core.Logic.{∥∥₁_elim, ∥∥₁_map}
 use native.Mathlib.Bridge.{le_prop}
-use Rattle.tree.specs.Surgery.{Becomes}
 use Rattle.tree.proofs.Held.{tall_size}
-use Rattle.tree.proofs.Inserting.{to_right, to_left, to_none}
 use Rattle.tree.proofs.balance.rebalance.Goals as goal
 
 pub part_of-before-requires : goal.part_of-before-requires
@@ -29,21 +27,3 @@ overflow_add-before g c =
     let f = w.2.few in
     omega arith) in
     omega arith
-
-pub returns-then-after-before : goal.returns-then-after-before
-returns-then-after-before g c = λ a b w.
-    let p = ap (λ p. p.height) (c.part_of-before.ensures a w.on_left) in
-    let q = ap (λ p. p.height) (c.part_of-after.ensures b w.on_right) in
-    subst (Becomes _ _ _) (sym (to_right g.T.Measure.ops a c.args.i c.args.row.element b (omega arith))) (c.rotate_right.ensures a b w)
-
-pub returns-then-before-after : goal.returns-then-before-after
-returns-then-before-after g c = λ a b w.
-    let p = ap (λ p. p.height) (c.part_of-before.ensures a w.on_left) in
-    let q = ap (λ p. p.height) (c.part_of-after.ensures b w.on_right) in
-    subst (Becomes _ _ _) (sym (to_left g.T.Measure.ops a c.args.i c.args.row.element b (omega arith) (omega arith))) (c.rotate_left.ensures a b w)
-
-pub returns-else-before-after : goal.returns-else-before-after
-returns-else-before-after g c = λ a b w.
-    let p = ap (λ p. p.height) (c.part_of-before.ensures a w.on_left) in
-    let q = ap (λ p. p.height) (c.part_of-after.ensures b w.on_right) in
-    subst (Becomes _ _ _) (sym (to_none g.T.Measure.ops a c.args.i c.args.row.element b (omega arith) (omega arith))) (c.write_node.ensures a b w)

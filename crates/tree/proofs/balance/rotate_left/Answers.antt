@@ -1,10 +1,9 @@
 use Rattle.std.proofs.Common.{sym, ◌∙◌, subst, ap, arith}
 use mathlib.Core.Logic.{∥∥₁_elim, ∥∥₁_map}
 use native.Mathlib.Bridge.{le_prop}
-use Rattle.tree.specs.Shapes.{tall}
 use Rattle.tree.specs.Surgery.{Becomes}
 use Rattle.tree.proofs.Held.{opened, within}
-use Rattle.tree.proofs.Rotating.{lsingle_1, lsingle_2, lsingle_all, ldouble_1, ldouble_2, ldouble_3, ldouble_all, left_of_none, double_of_none}
+use Rattle.tree.proofs.Rotating.{lsingle_1, lsingle_2, lsingle_all, ldouble_1, ldouble_2, ldouble_3, ldouble_all, left_of_none}
 use Rattle.tree.proofs.balance.rotate_left.Goals as goal
 
 pub returns-in_default : goal.returns-in_default
@@ -38,16 +37,6 @@ returns-then-part_of g c = λ a b w.
     let h' = ap (λ p. p.height) (c.part_of-2.ensures o.b o.right) in
     lsingle_all g.T.Measure.ops w o c.args.row.element (omega arith) t
     (c.write_node-then-part_of-2.ensures _ _ (lsingle_2 g.T.Measure.ops w o c.write_node-then-part_of.auto.rows t))
-
-pub write_node-requires-in_default-left : goal.write_node-requires-in_default-left
-write_node-requires-in_default-left g c = c.requires
-
-pub returns-in_default-left : goal.returns-in_default-left
-returns-in_default-left g c = λ a b w.
-    let o = opened b c.in-Some.is c.row_at-below.ensures w.on_right in
-    let h = ap (λ p. p.height) (c.part_of.ensures o.a o.left) in
-    let h' = ap (λ p. p.height) (c.part_of-2.ensures o.b o.right) in
-    absurd (double_of_none {n = tall o.b} o.a c.in_default-left.is o.left (omega arith))
 
 pub row_at-middle-requires : goal.row_at-middle-requires
 row_at-middle-requires g c = ∥∥₁_elim c.requires le_prop (λ w.

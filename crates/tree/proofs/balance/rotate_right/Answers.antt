@@ -1,10 +1,9 @@
 use Rattle.std.proofs.Common.{sym, ◌∙◌, subst, ap, arith}
 use mathlib.Core.Logic.{∥∥₁_elim, ∥∥₁_map}
 use native.Mathlib.Bridge.{le_prop}
-use Rattle.tree.specs.Shapes.{tall}
 use Rattle.tree.specs.Surgery.{Becomes}
 use Rattle.tree.proofs.Held.{opened, within}
-use Rattle.tree.proofs.Rotating.{single_1, single_2, single_all, double_1, double_2, double_3, double_all, right_of_none, double_of_none}
+use Rattle.tree.proofs.Rotating.{single_1, single_2, single_all, double_1, double_2, double_3, double_all, right_of_none}
 use Rattle.tree.proofs.balance.rotate_right.Goals as goal
 
 pub returns-in_default : goal.returns-in_default
@@ -38,16 +37,6 @@ returns-then-part_of g c = λ a b w.
     let h' = ap (λ p. p.height) (c.part_of-2.ensures o.a o.left) in
     single_all g.T.Measure.ops w o c.args.row.element (omega arith) t
     (c.write_node-then-part_of-2.ensures _ _ (single_2 g.T.Measure.ops w o c.write_node-then-part_of.auto.rows t))
-
-pub write_node-requires-in_default-right : goal.write_node-requires-in_default-right
-write_node-requires-in_default-right g c = c.requires
-
-pub returns-in_default-right : goal.returns-in_default-right
-returns-in_default-right g c = λ a b w.
-    let o = opened a c.in-Some.is c.row_at-below.ensures w.on_left in
-    let h = ap (λ p. p.height) (c.part_of.ensures o.b o.right) in
-    let h' = ap (λ p. p.height) (c.part_of-2.ensures o.a o.left) in
-    absurd (double_of_none {n = tall o.a} o.b c.in_default-right.is o.right (omega arith))
 
 pub row_at-middle-requires : goal.row_at-middle-requires
 row_at-middle-requires g c = ∥∥₁_elim c.requires le_prop (λ w.

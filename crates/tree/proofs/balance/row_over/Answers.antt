@@ -1,7 +1,7 @@
 use Rattle.std.proofs.Common.{◌+◌, ◌≤◌, ap, arith}
 use mathlib.Core.Logic.{∥∥₁_elim, ∥∥₁_map}
 use native.Mathlib.Bridge.{le_prop}
-use Rattle.tree.proofs.Held.{row_same, tall_size}
+use Rattle.tree.proofs.Held.{tall_size}
 use Rattle.tree.proofs.balance.row_over.Given as given
 use Rattle.tree.proofs.balance.row_over.Goals as goal
 
@@ -34,16 +34,3 @@ overflow_add-result-2 g c = let b = bound g c in omega arith
 
 pub overflow_add-result-3 : goal.overflow_add-result-3
 overflow_add-result-3 g c = let b = bound g c in omega arith
-
-pub returns : goal.returns
-returns g c = λ a b wa wb.
-    let p = c.part_of-before.ensures a wa in
-    let q = c.part_of-after.ensures b wb in
-    let m = c.max.ensures in
-    let h = ap (λ r. r.height) p in
-    let h' = ap (λ r. r.height) q in
-    let n = ap (λ r. r.count) p in
-    let n' = ap (λ r. r.count) q in
-    let u = ap (λ r. r.total) p in
-    let u' = ap (λ r. r.total) q in
-    row_same c.args.row.element wa.linked wb.linked (omega arith) (omega arith) (let v = c.join-2.ensures in let w = c.join.ensures in let x = c.of.ensures in cc)

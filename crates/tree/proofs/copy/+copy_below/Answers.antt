@@ -2,13 +2,12 @@ use Rattle.std.proofs.Common.{◌≡◌, ◌+◌, ◌-◌, ◌≤◌, ◌++◌, 
 use mathlib.Core.Logic.{∥∥₁_elim, ∥∥₁_map}
 use native.Mathlib.Bridge.{le_prop}
 use Rattle.std.specs.List.{between}
-use Rattle.std.proofs.lemmas.Bool.{eqb-true}
 use Rattle.std.proofs.lemmas.List.{drop_all, append-nil}
 use Rattle.tree.specs.Shapes.{size, elements}
-use Rattle.tree.proofs.Held.{opened, within_of, length-elements, no_more}
-use Rattle.tree.proofs.Pasting.{nothing_of, front_set, length-tail}
+use Rattle.tree.proofs.Held.{opened, within_of, length-elements}
+use Rattle.tree.proofs.Pasting.{front_set, length-tail}
 use Rattle.tree.proofs.Reading.{lower}
-use Rattle.tree.proofs.Stretches.{between_left, between_right, between_both, between_none}
+use Rattle.tree.proofs.Stretches.{between_right, between_both}
 use Rattle.tree.proofs.copy.+copy_below.Goals as goal
 
 pub row_at-row-requires : goal.row_at-row-requires
@@ -21,17 +20,6 @@ pub overflow_add-first : goal.overflow_add-first
 overflow_add-first g t c =
     let h : c.args.first + length c.args.out.now ≤ 4096 = ∥∥₁_elim c.requires le_prop (λ w. let f = w.1.few in let h = w.2 in omega arith) in
     omega arith
-
-pub returns-in_default : goal.returns-in_default
-returns-in_default g t c = λ s w h.
-    let z = no_more c.in_default.is s w in
-    let none : length c.args.out.now ≡ 0 = omega arith in
-    nothing_of _ none ∙ sym (between_none (elements s) c.args.first _ (omega arith))
-
-pub returns-then-is_empty : goal.returns-then-is_empty
-returns-then-is_empty g t c = λ s w h.
-    let none : length c.args.out.now ≡ 0 = eqb-true (length c.args.out.now) 0 (sym c.is_empty.ensures ∙ c.if-is_empty.true) in
-    nothing_of _ none ∙ sym (between_none (elements s) c.args.first _ (omega arith))
 
 pub copy_below-requires : goal.copy_below-requires
 copy_below-requires g t c κs inside = (
@@ -82,17 +70,6 @@ copy_below-requires-then-first-out g t c κs inside = (
     ),
   ),
 )
-
-pub returns-then-first-out : goal.returns-then-first-out
-returns-then-first-out g t c = λ s w h.
-    let o = opened s c.in-Some.is c.row_at-row.ensures w in
-    let n = ap (λ p. p.count) (c.part_of.ensures o.a o.left) in
-    let f = c.from-before.ensures in
-    let e = length-elements o.a in
-    let first = c.args.first in
-    let end = first + length c.args.out.now in
-    c.copy_below-then-first-out.ensures o.a o.left (omega arith)
-    ∙ sym (ap (λ x. between first end (elements x)) o.is ∙ between_left (elements o.a) _ _ first end (omega arith) (omega arith))
 
 pub copy_below-requires-2 : goal.copy_below-requires-2
 copy_below-requires-2 g t c κs inside = (

@@ -4,19 +4,11 @@ use native.Mathlib.Bridge.{le_prop}
 use Rattle.tree.specs.Surgery.{height_at, Loose, last_row, last_of}
 use Rattle.tree.proofs.Held.{opened, within}
 use Rattle.tree.proofs.Reading.{lower}
-use Rattle.tree.proofs.Removing.{loose_right, kept_left, level_rest, done_rest, named_here}
+use Rattle.tree.proofs.Removing.{loose_right, level_rest, done_rest}
 use Rattle.tree.proofs.remove.+detach_last.Goals as goal
 
 pub row_at-row-requires : goal.row_at-row-requires
 row_at-row-requires g t c = ∥∥₁_elim c.requires le_prop (λ w. within w.0 refl w.1.under)
-
-pub returns-in_default : goal.returns-in_default
-returns-in_default g t c =
-    let k = g.T.Measure.ops in
-    record {
-      turned = λ s w. kept_left k w (opened s refl c.row_at-row.ensures w.under) c.in_default.is;
-      named = λ s n d w. named_here k w (opened s refl c.row_at-row.ensures w.under) n d c.in_default.is;
-    }
 
 pub detach_last-deep-requires : goal.detach_last-deep-requires
 detach_last-deep-requires g t c κs inside =

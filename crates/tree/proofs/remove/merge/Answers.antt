@@ -1,11 +1,8 @@
 use Rattle.std.proofs.Common.{Some, ap, subst}
 use mathlib.Core.Logic.{∥∥₁_map}
 use Rattle.tree.specs.Surgery.{Loose, Becomes, rest, rebalanced}
-use Rattle.tree.proofs.Removing.{merge_none, merge_split, merge_done, sides_loose}
+use Rattle.tree.proofs.Removing.{merge_split, merge_done, sides_loose}
 use Rattle.tree.proofs.remove.merge.Goals as goal
-
-pub returns-in_default : goal.returns-in_default
-returns-in_default g c = λ a b w. merge_none g.T.Measure.ops a b c.in_default.is w
 
 pub detach_last-last-requires : goal.detach_last-last-requires
 detach_last-last-requires g c = ∥∥₁_map c.requires (λ w. (w.0, subst (λ x. Loose c.args.rows.now x w.0) c.in-Some.is (sides_loose g.T.Measure.ops w.2)))

@@ -1,13 +1,10 @@
-use Rattle.std.proofs.Common.{◌≡◌, ◌+◌, [], ◌∷◌, ◌++◌, map, length, take, drop, sym, refl, ap, ◌∙◌, arith}
-use Rattle.std.proofs.lemmas.List.{take_more, take_all}
+use Rattle.std.proofs.Common.{◌≡◌, ◌+◌, [], ◌∷◌, ◌++◌, take, sym, ap, ◌∙◌, arith}
+use Rattle.std.proofs.lemmas.List.{take_more}
 use Rattle.tree.specs.History.{change_answer, after_change, after_all, answers_all}
 use Rattle.tree.specs.Plain.{numbered}
 use Rattle.tree.specs.Trees.{elements_of, capacity_of}
 use Rattle.tree.proofs.Histories.{after_more, answers_more, mapped_more, spare_more}
 use Rattle.tree.proofs.tree.Tree.change_all.Goals as goal
-
-pub loop-i-init : goal.loop-i-init
-loop-i-init g c = (refl, refl, refl, refl)
 
 pub loop-i-preserved : goal.loop-i-preserved
 loop-i-preserved g c =
@@ -29,17 +26,3 @@ loop-i-preserved g c =
       spare_more c.loop-i.outcomes c.args.outcomes.now i c.change.result inv.2,
       c.change.ensures.capacity ∙ inv.3,
     )
-
-pub returns : goal.returns
-returns g c =
-    let inv = c.loop-i.invariant in
-    let room = capacity_of c.args.self.now in
-    let xs = elements_of c.args.self.now in
-    let changes = c.args.changes.now in
-    let all : c.loop-i.i ≡ length changes = omega (arith, c.loop-i.auto.i-end) in
-    let whole = take_all c.loop-i.i changes c.loop-i-test.false in
-    record {
-      elements = inv.0 ∙ ap (after_all room xs) whole;
-      answered = ap (λ n. map numbered (take n c.loop-i.outcomes)) (sym all) ∙ inv.1 ∙ ap (answers_all room xs) whole;
-      spare = ap (λ n. drop n c.loop-i.outcomes) (sym all) ∙ inv.2 ∙ ap (λ n. drop n c.args.outcomes.now) all;
-    }

@@ -1,12 +1,8 @@
 use Rattle.std.proofs.Common.{◌+◌, refl, ap, ◌∙◌, arith}
-use Rattle.std.proofs.lemmas.List.{take_all}
-use Rattle.tree.specs.Plain.{spliced, after_insert}
+use Rattle.tree.specs.Plain.{after_insert}
 use Rattle.tree.specs.Trees.{elements_of, capacity_of}
-use Rattle.tree.proofs.Splices.{splice_none, insert_more}
+use Rattle.tree.proofs.Splices.{insert_more}
 use Rattle.tree.proofs.tree.Tree.insert_all.Goals as goal
-
-pub loop-i-init : goal.loop-i-init
-loop-i-init g c = (splice_none (elements_of c.args.self.now) c.args.place, refl)
 
 pub overflow_add-place : goal.overflow_add-place
 unfolding capacity_of
@@ -27,10 +23,3 @@ loop-i-preserved g c =
           ∙ insert_more room xs ys c.args.place i p (omega arith) q y (c.args.place + i) y c.index-elements-i.is refl,
       c.insert.ensures.capacity ∙ c.loop-i.invariant.1,
     )
-
-pub returns : goal.returns
-returns g c =
-    record {
-      elements = c.loop-i.invariant.0 ∙ ap (spliced (elements_of c.args.self.now) c.args.place c.args.place) (take_all _ _ c.loop-i-test.false);
-      capacity = c.loop-i.invariant.1;
-    }

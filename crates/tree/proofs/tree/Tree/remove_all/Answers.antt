@@ -1,11 +1,8 @@
-use Rattle.std.proofs.Common.{◌≡◌, [], refl, ap, ◌∙◌, arith}
-use Rattle.tree.specs.Plain.{spliced, after_remove}
+use Rattle.std.proofs.Common.{ap, ◌∙◌, arith}
+use Rattle.tree.specs.Plain.{after_remove}
 use Rattle.tree.specs.Trees.{elements_of}
-use Rattle.tree.proofs.Splices.{splice_none, remove_more}
+use Rattle.tree.proofs.Splices.{remove_more}
 use Rattle.tree.proofs.tree.Tree.remove_all.Goals as goal
-
-pub loop-gone-init : goal.loop-gone-init
-loop-gone-init g c = (splice_none (elements_of c.args.self.now) c.args.first, refl)
 
 pub loop-gone-preserved : goal.loop-gone-preserved
 loop-gone-preserved g c =
@@ -16,11 +13,3 @@ loop-gone-preserved g c =
       c.remove.ensures.elements ∙ ap (λ ys. after_remove ys c.args.first) c.loop-gone.invariant.0 ∙ remove_more xs c.args.first n (omega arith) (omega arith),
       c.remove.ensures.capacity ∙ c.loop-gone.invariant.1,
     )
-
-pub returns : goal.returns
-returns g c =
-    let ordered = c.requires.ordered in
-    let low = c.loop-gone.auto._gone in
-    let high = c.loop-gone.auto._gone-end in
-    let all : c.loop-gone._gone ≡ c.args.end = omega arith in
-    record { elements = c.loop-gone.invariant.0 ∙ ap (λ n. spliced (elements_of c.args.self.now) c.args.first n []) all; capacity = c.loop-gone.invariant.1 }

@@ -1,46 +1,10 @@
-use Rattle.std.proofs.Common.{◌≡◌, ◌+◌, [], length, ap, ◌∙◌, arith}
+use Rattle.std.proofs.Common.{◌≡◌, ◌+◌, length, ap, ◌∙◌, arith}
 use Rattle.std.specs.List.{between}
 use Rattle.std.proofs.lemmas.List.Edits.{length-between}
 use Rattle.tree.specs.Plain.{spliced}
 use Rattle.tree.specs.Trees.{elements_of}
 use Rattle.tree.proofs.Splices.{splice_splice, splice_on, halves, length-splice}
 use Rattle.tree.proofs.tree.Tree.splice.Goals as goal
-
-pub set_all-requires : goal.set_all-requires
-set_all-requires g c =
-    let m = c.min-common.ensures in
-    let n = length-between c.args.elements.now 0 c.min-common.result (omega arith) in
-    let o = c.requires.ordered in
-    let w = c.requires.within in
-    omega arith
-
-pub remove_all-requires : goal.remove_all-requires
-remove_all-requires g c =
-    let m = c.min-common.ensures in
-    let xs = elements_of c.args.self.now in
-    let ys = c.args.elements.now in
-    let n = length-between ys 0 c.min-common.result (omega arith) in
-    let o = c.requires.ordered in
-    let w = c.requires.within in
-    let l = ap length c.set_all.ensures.elements ∙ length-splice xs (between 0 c.min-common.result ys) c.args.first _ (omega arith) (omega arith) in
-    record { ordered = omega arith; within = omega arith }
-
-pub insert_all-requires : goal.insert_all-requires
-insert_all-requires g c =
-    let m = c.min-common.ensures in
-    let common = c.min-common.result in
-    let xs = elements_of c.args.self.now in
-    let ys = c.args.elements.now in
-    let n = length-between ys 0 common (omega arith) in
-    let r = length-between ys common (length ys) (omega arith) in
-    let o = c.requires.ordered in
-    let w = c.requires.within in
-    let room = c.requires.room in
-    let l = ap length c.set_all.ensures.elements ∙ length-splice xs (between 0 common ys) c.args.first _ (omega arith) (omega arith) in
-    let k = ap length c.remove_all.ensures.elements ∙ length-splice (elements_of c.set_all.new.self) [] (c.args.first + common) c.args.end (omega arith) (omega arith) in
-    let p = c.set_all.ensures.capacity in
-    let q = c.remove_all.ensures.capacity in
-    record { within = omega arith; room = omega arith }
 
 pub returns : goal.returns
 returns g c =

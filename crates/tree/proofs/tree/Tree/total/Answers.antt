@@ -8,14 +8,9 @@ use Rattle.tree.specs.Plain.{fits}
 use Rattle.tree.specs.Shapes.{elements, Totalled}
 use Rattle.tree.specs.Trees.{shape, elements_of}
 use Rattle.tree.proofs.Facts.{count_is}
-use Rattle.tree.proofs.Plains.{fits_not_ordered, fits_not_within, fits_both}
+use Rattle.tree.proofs.Plains.{fits_not_within, fits_both}
 use Rattle.tree.proofs.Wholes.{whole_shape}
 use Rattle.tree.proofs.tree.Tree.total.Goals as goal
-
-pub returns-then-first-end : goal.returns-then-first-end
-returns-then-first-end g c =
-    let f = fits_not_ordered (elements_of c.args.self.now) c.args.first c.args.end (omega arith) in
-    record { answer = sym (cond-false (fits (elements_of c.args.self.now) c.args.first c.args.end) _ _ f); refusal = sym f }
 
 pub returns-then-end-self : goal.returns-then-end-self
 unfolding shape elements_of
