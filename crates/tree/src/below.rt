@@ -8,6 +8,7 @@ ghost use Rattle.tree.specs.Surgery.{part_of};
 use crate::measure::Measure;
 use crate::row::{Part, Row};
 
+/// The row that a link leads to.
 pub(crate) fn row_at<E: Copy, T: Copy>(rows: &[Row<E, T>], i: u16) -> Row<E, T>
     requires { i < length rows.now }
     ensures { slice_get rows.now i ≡ Some result }
@@ -15,6 +16,7 @@ pub(crate) fn row_at<E: Copy, T: Copy>(rows: &[Row<E, T>], i: u16) -> Row<E, T>
     rows[i as usize]
 }
 
+/// Writes the row that a link leads to.
 pub(crate) fn write_row<E: Copy, T: Copy>(rows: &mut [Row<E, T>], i: u16, row: Row<E, T>)
     requires { i < length rows.old }
     ensures { rows.new ≡ slice_set rows.old i row }
@@ -22,6 +24,8 @@ pub(crate) fn write_row<E: Copy, T: Copy>(rows: &mut [Row<E, T>], i: u16, row: R
     rows[i as usize] = row;
 }
 
+// Kept: the rows and a link apart, here and wherever a link is followed: a struct of both would be made anew for each of a row's two links, and a place's bound, the size, could not be told from it.
+/// What a row needs to know of the part below a link.
 pub(crate) fn part_of<E: Copy, T: Measure<E>>(rows: &[Row<E, T>], link: Option<u16>) -> Part<T>
     requires { ∥ ((s : Shape E T) × Under rows.now link s × Unit {0}) ∥₁ }
     ensures { (s : Shape E T) → Under rows.now link s → result ≡ part_of T.ops s }
@@ -43,6 +47,7 @@ pub(crate) fn part_of<E: Copy, T: Measure<E>>(rows: &[Row<E, T>], link: Option<u
     }
 }
 
+/// The element at a place, and its depth below the link.
 pub(crate) fn read_below<E: Copy, T: Measure<E>>(
     rows: &[Row<E, T>],
     link: Option<u16>,

@@ -111,6 +111,7 @@ impl<E: Copy, T: Measure<E>> Tree<'_, E, T> {
         ensures answered { map numbered (take (length changes.now) outcomes.new) ≡ answers_all (capacity_of self.old) (elements_of self.old) changes.now }
         ensures spare { drop (length changes.now) outcomes.new ≡ drop (length changes.now) outcomes.old }
     {
+        // Kept: by index, since of what a loop over `outcomes.iter_mut().zip(changes)` wrote nothing is known behind it.
         for (i, change) in changes.iter().enumerate() {
             outcomes[i] = self.change(*change);
         }
@@ -121,6 +122,7 @@ impl<E: Copy, T: Measure<E>> Tree<'_, E, T> {
         ensures told { map numbered (take (length questions.now) answers.new) ≡ map (question_answer T.ops (elements_of self.now) (depth_in self.now)) questions.now }
         ensures spare { drop (length questions.now) answers.new ≡ drop (length questions.now) answers.old }
     {
+        // Kept: by index, for the same reason.
         for (i, question) in questions.iter().enumerate() {
             answers[i] = self.ask(*question);
         }
