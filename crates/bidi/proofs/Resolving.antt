@@ -1,6 +1,6 @@
 -- Both passes of resolving, step by step.
-use Rattle.std.proofs.Common.{◌≡◌, ℕ, zero, suc, ◌+◌, ◌<◌, ◌≤◌, ◌≢◌, List, [], ◌∷◌, ◌++◌, length, get_or, take, drop, set, sym, refl, ap, ◌∙◌, ap₂, arith}
-use Rattle.std.proofs.lemmas.List.{drop_more, drop-set, take_more, take_more_set, take_all, drop_all, take-append-drop, map-append, length-map, length-take, get_or-set_other}
+use Rattle.std.proofs.Common.{◌≡◌, ℕ, zero, suc, ◌+◌, ◌<◌, ◌≤◌, ◌≢◌, List, [], ◌∷◌, ◌++◌, length, get_or, take, drop, set, sym, refl, ap, ◌∙◌, ap₂, append_assoc, arith}
+use Rattle.std.proofs.lemmas.List.{drop_at, drop-set, drop_more, take_more, take_more_set, take_all, take-append-drop, map-append, length-map, length-take, get_or-set_other}
 use Rattle.tree.specs.Measures.{total_of}
 use Rattle.rules.specs.declared.classes.Class.{Class}
 use Rattle.rules.specs.declared.classes.Side.{Side}
@@ -24,29 +24,25 @@ pub record Gathered (items : List Item) (i : ℕ) (bytes : List ℕ) (right stro
   pub on_strong : strong ≡ (total_of context_ops (drop i items)).strong
   pub written : drop i bytes ≡ behind (drop i items)
 
-pub gathered_none : (items : List Item) (bytes : List ℕ) (i : ℕ) → length items ≤ i → length bytes ≤ i → Gathered items i bytes 0 0
-gathered_none items bytes i h k =
-    let none : drop i items ≡ [] = drop_all i items h in
-    record {
-      on_right = sym (ap (λ l. (total_of context_ops l).right) none);
-      on_strong = sym (ap (λ l. (total_of context_ops l).strong) none);
-      written = drop_all i bytes k ∙ sym (ap behind none);
-    }
+-- the last item of those that the pass has yet to come to
+pub without_last : (items front all : List Item) (e : Item) → all ≡ front ++ (e ∷ []) → items ≡ all ++ drop (length all) items
+    → (items ≡ front ++ drop (length front) items) × (drop (length front) items ≡ e ∷ drop (length all) items)
+without_last items front all e last split =
+    let whole : items ≡ front ++ (e ∷ drop (length all) items) = split ∙ ap (λ l. l ++ drop (length all) items) last ∙ append_assoc front (e ∷ []) (drop (length all) items) in
+    let rest : drop (length front) items ≡ e ∷ drop (length all) items = ap (drop (length front)) whole ∙ drop_at front (e ∷ drop (length all) items) (length front) refl in
+    (whole ∙ ap (λ l. front ++ l) (sym rest), rest)
 
-pub gathered_more : (items : List Item) (bytes : List ℕ) (i j right strong : ℕ) (d : Item) → i ≡ j + 1 → j < length items → j < length bytes
+pub gathered_more : (items : List Item) (bytes : List ℕ) (i j right strong : ℕ) (e : Item) → i ≡ j + 1 → drop j items ≡ e ∷ drop i items → j < length bytes
     → Gathered items i bytes right strong
-    → Gathered items j (set bytes j right) (right_join (right_of (get_or items j d).class) right) (strong_join (strong_of (get_or items j d).class) strong)
-gathered_more items bytes i j right strong d next h k g =
-    let e : Item = get_or items j d in
-    let here : drop j items ≡ e ∷ drop i items = drop_more items j d h ∙ ap (λ (n : ℕ). e ∷ drop n items) (sym next) in
-    record {
-      on_right = ap (right_join (right_of e.class)) g.on_right ∙ sym (ap (λ l. (total_of context_ops l).right) here);
-      on_strong = ap (strong_join (strong_of e.class)) g.on_strong ∙ sym (ap (λ l. (total_of context_ops l).strong) here);
-      written =
-          drop-set bytes j right k
-          ∙ ap₂ (λ (x : ℕ) (xs : List ℕ). x ∷ xs) g.on_right (ap (λ n. drop n bytes) (sym next) ∙ g.written)
-          ∙ sym (ap behind here);
-    }
+    → Gathered items j (set bytes j right) (right_join (right_of e.class) right) (strong_join (strong_of e.class) strong)
+gathered_more items bytes i j right strong e next here k g = record {
+  on_right = ap (right_join (right_of e.class)) g.on_right ∙ sym (ap (λ l. (total_of context_ops l).right) here);
+  on_strong = ap (strong_join (strong_of e.class)) g.on_strong ∙ sym (ap (λ l. (total_of context_ops l).strong) here);
+  written =
+      drop-set bytes j right k
+      ∙ ap₂ (λ (x : ℕ) (xs : List ℕ). x ∷ xs) g.on_right (ap (λ n. drop n bytes) (sym next) ∙ g.written)
+      ∙ sym (ap behind here);
+}
 
 -- what stands at a place after that pass
 behind_at : (items : List Item) (i : ℕ) → i < length items → get_or (behind items) i 0 ≡ (total_of context_ops (drop (suc i) items)).right

@@ -53,6 +53,7 @@ pub(crate) struct RightAction {
     pub(crate) first: Option<First>,
 }
 
+// Kept: a part holds numbers, since joins of enums took longer (at `Contexts`), so these functions read them.
 pub(crate) fn strong_at(n: u8) -> Option<Strong>
     ensures { result ≡ strong_in n }
 {

@@ -22,12 +22,11 @@ fn gather(items: &[Item], bytes: &mut [u8]) -> u8
 {
     let mut right: u8 = 0;
     let mut strong: u8 = 0;
-    // Kept: over `items.iter().rev().zip(bytes.iter_mut().rev())` the proof didn't close, since no fact then tells what the bytes hold.
-    for i in (0..items.len()).rev() {
-        bytes[i] = right;
-        let class = items[i].class;
-        right = join_right(right_number(class), right);
-        strong = join_strong(strong_number(class), strong);
+    // Kept: by place, since over `bytes.iter_mut().rev()` in a `zip` the proof didn't close: no fact then tells what the bytes hold.
+    for (place, item) in items.iter().enumerate().rev() {
+        bytes[place] = right;
+        right = join_right(right_number(item.class), right);
+        strong = join_strong(strong_number(item.class), strong);
     }
     strong
 }
@@ -39,7 +38,7 @@ fn settle(base: Side, items: &[Item], bytes: &mut [u8])
 {
     let end = Right::end(base);
     let mut left = Left::start(base);
-    // Kept: over `bytes.iter_mut().zip(items)` the proof didn't close, since no fact then tells what the bytes hold.
+    // Kept: by place, since over `bytes.iter_mut().zip(items)` the proof didn't close: no fact then tells what the bytes hold.
     for (place, item) in items.iter().enumerate() {
         bytes[place] = level(base, left, item.class, before_part(bytes[place], end));
         left = left.after(item.class);

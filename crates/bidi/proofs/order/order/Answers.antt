@@ -4,16 +4,12 @@ use Rattle.std.proofs.lemmas.List.{length-take}
 use Rattle.rules.specs.Order.{places, reordered, highest, at, L2}
 use Rattle.bidi.proofs.order.order.Goals as goal
 
-pub returns : goal.returns
+pub returns-clause-list : goal.returns-clause-list
 unfolding L2
-returns c =
+returns-clause-list c =
     let levels = c.args.levels.now in
     let list = c.args.list.now in
     let fits : leb (length levels) (length list) ≡ true = le-leb (length levels) (length list) (omega arith) in
     let whole : length (take (length levels) list) ≡ length levels = length-take (length levels) list ∙ omega arith in
-    record {
-      answer = sym (cond-true _ _ _ fits);
-      list =
-          ap (λ l. l ++ drop (length levels) list) (c.turn_all.ensures ∙ ap (reordered (at levels) (highest levels)) (c.count_up.ensures ∙ ap (places 0) whole))
-          ∙ sym (cond-true _ _ _ fits);
-    }
+    ap (λ l. l ++ drop (length levels) list) (c.turn_all.ensures ∙ ap (reordered (at levels) (highest levels)) (c.count_up.ensures ∙ ap (places 0) whole))
+    ∙ sym (cond-true _ _ _ fits)

@@ -13,12 +13,6 @@ loop-place-init c = (
   record { on_left = c.start-left.ensures; front = refl; rest = λ k u. ap (λ l. get_or l k 0) c.requires },
 )
 
-pub bounds-bytes-place : goal.bounds-bytes-place
-bounds-bytes-place c = omega (arith, c.loop-place.invariant.0)
-
-pub bounds-bytes-place-in-loop-place : goal.bounds-bytes-place-in-loop-place
-bounds-bytes-place-in-loop-place c = omega (arith, c.loop-place.invariant.0)
-
 pub loop-place-preserved : goal.loop-place-preserved
 loop-place-preserved c =
     let base = c.args.base in
