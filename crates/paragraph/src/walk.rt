@@ -12,6 +12,7 @@ use crate::span::{Span, hull};
 use rules::contexts::level;
 
 impl Change<'_, '_, '_> {
+    // Kept: one walk for both sides, `walk((0..self.place).rev(), self.was.right, self.is.right, |right, at| level(base, at.left, at.class, right), Right::before)`, reads no plainer.
     /// The span of the items before the new ones whose level differs between the two right contexts there.
     fn walk_before(&self) -> Option<Span>
         ensures { SpanOf (Other self.now.was.base (left_start self.now.was.base) self.now.was.right self.now.was.base (left_start self.now.was.base) self.now.is.right (take self.now.place (classes (items_of self.now.paragraph.now)))) result }
