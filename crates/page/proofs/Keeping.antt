@@ -1,8 +1,8 @@
 -- What a page keeps: at most 4,096 entries, and everything where it refuses.
-use Rattle.std.proofs.Common.{◌≡◌, ℕ, zero, suc, ◌<◌, ◌≤◌, Bool, true, false, cond, ltb, leb, List, [], ◌∷◌, length, Some, None, Ok, Err, sym, refl, ap, arith, ltb-false, leb-false}
-use Rattle.std.specs.List.{slice_get, insert, remove}
+use Rattle.std.proofs.Common.{◌≡◌, ℕ, ◌<◌, ◌≤◌, Bool, true, false, cond, ltb, leb, List, length, Ok, Err, sym, refl, ap, arith, ltb-false, leb-false}
+use Rattle.std.specs.List.{insert}
 use Rattle.std.proofs.lemmas.List.Edits.{length-insert}
-use Rattle.tree.specs.Plain.{accepted, found, insert_answer, after_insert, after_remove}
+use Rattle.tree.specs.Plain.{accepted, insert_answer, after_insert}
 use Rattle.tree.specs.Trees.{capacity_of}
 use Rattle.tree.specs.declared.measure.Measure.{Ghosts}
 use Rattle.tree.specs.declared.tree.Tree.{Tree}
@@ -23,16 +23,6 @@ module _ {E : Type 0} where
       go true c u v = h
       go false true u v = h
       go false false u v = let a = u refl in let k = v refl in rw (length-insert xs p x a) (omega arith)
-
-  removed_le : (xs : List E) (p : ℕ) → length (remove xs p) ≤ length xs
-  removed_le [] zero = omega arith
-  removed_le [] (suc p) = omega arith
-  removed_le (x ∷ xs) zero = omega arith
-  removed_le (x ∷ xs) (suc p) = let h = removed_le xs p in omega arith
-
-  pub few_remove : (xs : List E) (p : ℕ) → length xs ≤ 4096 → length (after_remove xs p) ≤ 4096
-  few_remove xs p h =
-      elim (slice_get xs p) as (λ o. length (accepted (found o) (remove xs p) xs) ≤ 4096) [ None ↦ h | Some x ↦ omega (arith, removed_le xs p) ]
 
 module _ (room : ℕ) (xs : List Entry) (place key lines hits : ℕ) where
   -- lines in range are left to the insertion

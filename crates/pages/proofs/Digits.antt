@@ -1,6 +1,6 @@
 -- Reading one digit more.
-use Rattle.std.proofs.Common.{◌≡◌, ℕ, ◌+◌, ◌-◌, ◌*◌, ◌^◌, ◌<◌, ◌≤◌, cond, ltb, List, length, get_or, drop, None, ap, ◌∙◌, add-one, arith, le-ltb, lt-ltb}
-use native.Mathlib.Nat.{pow-succ', pow-le-pow_right}
+use Rattle.std.proofs.Common.{◌≡◌, ℕ, ◌+◌, ◌-◌, ◌*◌, ◌^◌, ◌<◌, ◌≤◌, cond, ltb, List, length, get_or, drop, None, ap, ◌∙◌, arith, le-ltb, lt-ltb}
+use native.Mathlib.Nat.{pow-le-pow_right}
 use Rattle.std.proofs.lemmas.List.{at_drop_more}
 use Rattle.pages.specs.Numbers.{read_on}
 
@@ -16,10 +16,6 @@ module _ (n : ℕ) (bs : List ℕ) (i : ℕ) (h : i < length bs) where
 
   pub digit : 48 ≤ get_or bs i 0 → get_or bs i 0 ≤ 57 → read_on n (drop i bs) ≡ read_on (n * 10 + (get_or bs i 0 - 48)) (drop (i + 1) bs)
   digit lo hi = not_low lo ∙ ap (λ t. cond t None (read_on (n * 10 + (get_or bs i 0 - 48)) (drop (i + 1) bs))) (le-ltb 57 (get_or bs i 0) hi)
-
--- one digit more makes the number at most ten times as large
-pub ten_more : (n d i : ℕ) → n < 10 ^ i → d ≤ 9 → n * 10 + d < 10 ^ (i + 1)
-ten_more n d i h k = rw (add-one, pow-succ') (omega arith)
 
 -- up to eight digits leave room for one more
 pub room : (n i : ℕ) → n < 10 ^ i → i < 9 → n < 100000000

@@ -1,5 +1,5 @@
 -- Where the first mark is.
-use Rattle.std.proofs.Common.{◌≡◌, ℕ, zero, suc, ◌+◌, ◌<◌, ◌≤◌, Bool, true, false, cond, not, ltb, List, [], ◌∷◌, length, drop, Some, None, refl, ap, ◌∙◌, arith, length-drop, ltb-true, ltb-false, le-ltb, lt-ltb, position, ◌==◌}
+use Rattle.std.proofs.Common.{◌≡◌, ℕ, ◌+◌, ◌<◌, ◌≤◌, Bool, true, false, cond, not, ltb, List, [], ◌∷◌, length, drop, Some, None, refl, ap, arith, length-drop, ltb-true, ltb-false, le-ltb, lt-ltb, position, ◌==◌}
 use Rattle.std.specs.List.{position_or_len}
 use Rattle.pages.specs.Lines.{first_at, behind}
 

@@ -1,9 +1,9 @@
 -- A session on the way: what is written, and what is still to come.
-use Rattle.std.proofs.Common.{◌≡◌, ℕ, ◌+◌, ◌≤◌, Bool, true, false, cond, List, [], ◌∷◌, ◌++◌, length, is_err, Ok, Err, Result, sym, refl, ap, ◌∙◌, append_assoc, arith}
+use Rattle.std.proofs.Common.{◌≡◌, ℕ, ◌+◌, ◌≤◌, Bool, true, false, cond, List, ◌∷◌, ◌++◌, length, is_err, Ok, Err, Result, sym, refl, ap, ◌∙◌, append_assoc, arith}
 use Rattle.page.specs.declared.entry.Entry.{Entry}
 use Rattle.pages.specs.Lines.{lines_in}
 use Rattle.pages.specs.Session.{told, line_answer, after_line}
-use Rattle.pages.specs.Reports.{line_text, end_text, refusals, session, transcript}
+use Rattle.pages.specs.Reports.{line_text, refusals, session, transcript}
 use Rattle.pages.specs.declared.answer.Answer.{Answer}
 use Rattle.pages.specs.declared.call.Refusal.{Refusal}
 
@@ -23,10 +23,6 @@ at_most_one : (b : Bool) → cond b 1 0 ≤ 1
 at_most_one true = omega arith
 at_most_one false = omega arith
 
-no_lines : (rest : List ℕ) → length rest ≡ 0 → lines_in rest ≡ []
-no_lines [] none = refl
-no_lines (b ∷ bs) none = absurd (omega arith)
-
 module _ {room : ℕ} {first : List Entry} {text : List ℕ} {now_room : ℕ} {xs : List Entry} {done refused : ℕ} {rest printed : List ℕ} (h : Sofar room first text now_room xs done refused rest printed) where
   -- one line more
   pub one_more : (o : Result Answer Refusal) (line rest' bytes printed' : List ℕ) (room' : ℕ) (xs' : List Entry) (refused' : ℕ) → lines_in rest ≡ line ∷ lines_in rest' → length rest' + 1 ≤ length rest → told o ≡ line_answer now_room xs line → xs' ≡ after_line now_room xs line → room' ≡ now_room → refused' ≡ refused + cond (is_err o) 1 0 → bytes ≡ line_text (done + 1) (told o) → printed' ≡ printed ++ bytes → Sofar room first text room' xs' (done + 1) refused' rest' printed'
@@ -45,7 +41,3 @@ module _ {room : ℕ} {first : List Entry} {text : List ℕ} {now_room : ℕ} {x
         left = let l = h.left in omega arith;
         few = let f = h.few in omega (arith, at_most_one (is_err o));
       }
-
-  -- the end
-  pub finished : (bytes : List ℕ) → length rest ≡ 0 → bytes ≡ end_text xs refused → printed ++ bytes ≡ transcript room first text
-  finished bytes none shown = ap (λ b. printed ++ b) (shown ∙ sym (ap (session room xs done refused) (no_lines rest none))) ∙ h.written

@@ -1,6 +1,6 @@
-use Rattle.std.proofs.Common.{◌≡◌, ◌+◌, ◌<◌, cond, ◌++◌, length, is_err, string_bytes, sym, ap, ◌∙◌, add-zero, arith, eqb-true}
+use Rattle.std.proofs.Common.{◌≡◌, ◌+◌, ◌<◌, cond, ◌++◌, length, is_err, string_bytes, sym, ap, ◌∙◌, add-zero, arith}
 use borrow.Author.Tests.{eqb-false}
-use Rattle.pages.proofs.Sofar.{one_more, finished}
+use Rattle.pages.proofs.Sofar.{one_more}
 use Rattle.pages.proofs.session.run.Goals as goal
 use Rattle.pages.proofs.session.run.Goals.{then-is_err, else-is_err}
 
@@ -17,8 +17,3 @@ loop-rest-preserved c =
     (c.next_line.ensures.lines some) (omega (arith, c.next_line.ensures.less some))
     c.step-outcome.ensures.answer c.step-outcome.ensures.entries c.step-outcome.ensures.room
     counts c.in_ok-report.ensures (c.in_ok-push_str.ensures.bytes ∙ ap (λ b. string_bytes c.loop-rest.printed ++ b) c.as_str.ensures.value)
-
-pub returns : goal.returns
-returns c =
-    let none : length c.loop-rest.rest.now ≡ 0 = eqb-true (length c.loop-rest.rest.now) 0 (sym c.is_empty.ensures ∙ c.loop-rest-test.false) in
-    c.in_ok-push_str-2.ensures.bytes ∙ finished c.loop-rest.invariant _ none (c.as_str-2.ensures.value ∙ c.in_ok-report-2.ensures)

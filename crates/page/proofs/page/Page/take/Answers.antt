@@ -1,14 +1,8 @@
-use Rattle.std.proofs.Common.{◌≤◌, length, sym, ap, subst}
+use Rattle.std.proofs.Common.{ap}
 use borrow.Rule.Reborrow.{re_v}
 use Rattle.std.proofs.lemmas.Result.{err_from_is_err_and}
 use Rattle.page.proofs.Alike.{same_page}
-use Rattle.page.proofs.Keeping.{few_remove}
 use Rattle.page.proofs.page.Page.take.Goals as goal
-
-pub invariant_of-self : goal.invariant_of-self
-invariant_of-self c = record {
-  few = subst (λ xs. length xs ≤ 4096) (sym c.remove.ensures.elements) (few_remove _ _ c.args.self.now.few);
-}
 
 pub returns-in_err-remove : goal.returns-in_err-remove
 returns-in_err-remove c =
