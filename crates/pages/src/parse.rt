@@ -9,7 +9,7 @@ use crate::call::{Call, Refusal};
 use crate::cut::cut;
 use crate::number::{number, small};
 
-const TAB: u8 = 9;
+const TAB: u8 = b'\t';
 
 /// The next field, and what is left behind it.
 fn field<'a>(rest: Option<&'a [u8]>) -> Result<(&'a [u8], Option<&'a [u8]>), Refusal>

@@ -17,7 +17,7 @@ use tree::tree::Tree;
 /// The most bytes that are carried out.
 pub const LIMIT: usize = 16384;
 
-const LINE_FEED: u8 = 10;
+const LINE_FEED: u8 = b'\n';
 
 /// Fills the rows of a new page.
 const BLANK: Entry = Entry {
@@ -46,6 +46,7 @@ pub(crate) fn run(heap: Global, page: &mut Page<'_, '_>, text: &[u8]) -> Result<
     let mut rest = text;
     let mut done: usize = 0;
     let mut refused: usize = 0;
+    // Kept: line by line, since `text.split(..)` would tell one line more behind a closing line feed, where none begins.
     while !rest.is_empty() {
         let (line, behind) = next_line(rest);
         let outcome = step(page, line);
