@@ -17,32 +17,21 @@ fn item(class: Class) -> Item {
     Item { class, width: 1 }
 }
 
-/// An edit was accepted, and answered so many items, this base level and this span; 9 and 9 stand for no span.
+/// An edit was accepted, and answered so many items, this base level and this span, if any.
 fn told(
     rt: &impl Abort,
     answer: Result<Outcome, ParagraphFault>,
     count: usize,
     base: u8,
-    first: usize,
-    end: usize,
+    span: Option<(usize, usize)>,
 ) -> Result<(), Fail> {
     let Ok(outcome) = answer else {
         return Err(Fail::new("the edit is accepted"));
     };
     assert_eq!(rt; outcome.count, count);
     assert_eq!(rt; outcome.base, base);
-    match outcome.span {
-        Some(span) => {
-            assert_eq!(rt; span.first, first);
-            assert_eq!(rt; span.end, end);
-            Ok(())
-        }
-        None => {
-            assert_eq!(rt; first, 9);
-            assert_eq!(rt; end, 9);
-            Ok(())
-        }
-    }
+    assert_eq!(rt; outcome.span.map(|span| (span.first, span.end)), span);
+    Ok(())
 }
 
 fn level_is(
@@ -51,13 +40,11 @@ fn level_is(
     place: usize,
     level: u8,
 ) -> Result<(), Fail> {
-    match paragraph.level(place) {
-        Ok(told) => {
-            assert_eq!(rt; told.0, level);
-            Ok(())
-        },
-        Err(_) => Err(Fail::new("the item is there")),
-    }
+    let Ok((told, _)) = paragraph.level(place) else {
+        return Err(Fail::new("the item is there"));
+    };
+    assert_eq!(rt; told, level);
+    Ok(())
 }
 
 #[test]
@@ -72,10 +59,15 @@ fn an_arabic_letter_before_digits(rt: HostRuntime) -> Result<(), Fail> {
         paragraph.edit(0, 0, &[digit, space, digit, space, digit]),
         5,
         0,
-        0,
-        5,
+        Some((0, 5)),
     )?;
-    told(&rt, paragraph.edit(0, 0, &[item(Class::AL)]), 6, 0, 0, 6)?;
+    told(
+        &rt,
+        paragraph.edit(0, 0, &[item(Class::AL)]),
+        6,
+        0,
+        Some((0, 6)),
+    )?;
     level_is(&rt, &paragraph, 0, 1)?;
     level_is(&rt, &paragraph, 1, 2)?;
     level_is(&rt, &paragraph, 2, 1)?;
@@ -94,10 +86,15 @@ fn a_new_base_level_reaches_the_last_item(rt: HostRuntime) -> Result<(), Fail> {
         paragraph.edit(0, 0, &[item(Class::R), item(Class::L)]),
         2,
         1,
-        0,
-        2,
+        Some((0, 2)),
     )?;
-    told(&rt, paragraph.edit(0, 0, &[item(Class::L)]), 3, 0, 0, 3)?;
+    told(
+        &rt,
+        paragraph.edit(0, 0, &[item(Class::L)]),
+        3,
+        0,
+        Some((0, 3)),
+    )?;
     level_is(&rt, &paragraph, 0, 0)?;
     level_is(&rt, &paragraph, 1, 1)?;
     level_is(&rt, &paragraph, 2, 0)
@@ -113,8 +110,7 @@ fn a_removed_item_may_change_nothing(rt: HostRuntime) -> Result<(), Fail> {
         paragraph.edit(0, 0, &[item(Class::L), item(Class::L)]),
         2,
         0,
-        0,
-        2,
+        Some((0, 2)),
     )?;
-    told(&rt, paragraph.edit(1, 1, &[]), 1, 0, 9, 9)
+    told(&rt, paragraph.edit(1, 1, &[]), 1, 0, None)
 }

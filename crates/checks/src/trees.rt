@@ -4,6 +4,9 @@ use bidi::columns::Columns;
 use bidi::item::Item;
 use rules::Class;
 use std::test::Fail;
+use tree::fault::Fault;
+use tree::history::Recording;
+use tree::request::{Change, Question, Told};
 use tree::row::Row;
 use tree::tree::Tree;
 
@@ -15,11 +18,8 @@ fn item(width: u8) -> Item {
 }
 
 /// The number of a refusal, or 0.
-fn refusal<A: Copy>(answer: Result<A, tree::fault::Fault>) -> u8 {
-    match answer {
-        Ok(_) => 0,
-        Err(fault) => fault.number(),
-    }
+fn refusal<A: Copy>(answer: Result<A, Fault>) -> u8 {
+    answer.map_or_else(|fault| fault.number(), |_| 0)
 }
 
 #[test]
@@ -61,5 +61,39 @@ fn four_thousand_ascending_then_from_the_middle(rt: HostRuntime) -> Result<(), F
     }
     assert_eq!(rt; refusal(tree.remove(0)), 1);
     assert_eq!(rt; tree.len(), 0);
+    Ok(())
+}
+
+#[test]
+fn a_recorded_history_is_answered(rt: HostRuntime) -> Result<(), Fail> {
+    let mut rows: [Row<Item, Columns>; 4] = [Row::new(item(0)); 4];
+    let mut tree = Tree::open(&mut rows);
+    let changes = [
+        Change::Insert {
+            place: 0,
+            element: item(1),
+        },
+        Change::Insert {
+            place: 1,
+            element: item(2),
+        },
+        Change::Remove { place: 2 },
+    ];
+    let mut outcomes = [Ok(None); 3];
+    let questions = [Question::Total { first: 0, end: 2 }];
+    let mut answers = [Err(Fault::Place); 1];
+    let mut recording = Recording {
+        changes: &changes,
+        outcomes: &mut outcomes,
+        questions: &questions,
+        answers: &mut answers,
+    };
+    assert_eq!(rt; tree.history(&mut recording), Ok(()));
+    assert_eq!(rt; refusal(outcomes[1]), 0);
+    assert_eq!(rt; refusal(outcomes[2]), 1);
+    let Ok(Told::Sum(total)) = answers[0] else {
+        return Err(Fail::new("the total of both"));
+    };
+    assert_eq!(rt; total.width, 3);
     Ok(())
 }
