@@ -1,3 +1,2 @@
-pub mod Picking
 pub mod Histories
 pub mod Depths

@@ -1,6 +1,5 @@
 -- The walk to the left of an edit, with what it keeps.
-use Rattle.std.proofs.Common.{◌≡◌, ℕ, ◌+◌, ◌<◌, ◌≤◌, ◌⊎◌, List, length, get_or, take, drop, None, Option, sym, ap, ◌∙◌, subst, inl, inr, ⊎_elim, arith}
-use Rattle.std.proofs.lemmas.List.{drop_all}
+use Rattle.std.proofs.Common.{◌≡◌, ℕ, ◌+◌, ◌<◌, ◌≤◌, ◌⊎◌, List, length, get_or, take, drop, Option, sym, ap, ◌∙◌, subst, inl, inr, ⊎_elim, arith}
 use Rattle.std.proofs.lemmas.Bool.{cases_order}
 use Rattle.paragraph.specs.declared.span.Span.{Span}
 use Rattle.rules.specs.Contexts.{before, level_at}
@@ -27,17 +26,6 @@ module _ (b : Side) (l : Left) (r r' : Right) (xs : List Class) where
 
   abbrev P : ℕ → Type 0
   P = Other b l r b l r' xs
-
-  pub leftward_none : (n : ℕ) → length xs ≡ n → LeftOf n r r' None
-  leftward_none n e = record {
-    within = omega arith;
-    old_is = ap (right r) (sym (drop_all n xs (omega arith)));
-    new_is = ap (right r') (sym (drop_all n xs (omega arith)));
-    spans = λ k p. not_past k p.0 p.1.0;
-  }
-    where
-      not_past : (k : ℕ) → n ≤ k → k < length xs → ⊥
-      not_past k h j = omega arith
 
   -- one step to the place n: the item there and the context before it, its two levels, and the contexts beyond it
   module _ (i n : ℕ) (old new : Right) (found : Option Span) (w : LeftOf i old new found) (step : i ≡ n + 1) (x : Class) (item : x ≡ get_or xs n none) (c : Left) (context : c ≡ left l (take n xs)) (p p' : ℕ) (level_old : p ≡ level_at b c x old) (level_new : p' ≡ level_at b c x new) (old' new' : Right) (to_old : old' ≡ before x old) (to_new : new' ≡ before x new) (found' : Option Span) where
@@ -84,10 +72,7 @@ module _ (b : Side) (l : Left) (r r' : Right) (xs : List Class) where
       spans = subst (λ (s : Option Span). SpanOf (λ k. (n ≤ k) × P k) s) (sym f) (none_more (λ k. i ≤ k) (λ k. n ≤ k) P n found back (λ k h. omega arith) (omega arith) (λ q. q.1 (sym old_level ∙ e ∙ new_level)) w.spans);
     }
 
-  -- the walk is over at the front, or where the contexts agree
-  pub leftward_front : (i : ℕ) (old new : Right) (found : Option Span) → i ≡ 0 → LeftOf i old new found → SpanOf P found
-  leftward_front i old new found z w = looked (λ k. i ≤ k) P found (λ k p. omega arith) w.spans
-
+  -- the walk is over where the contexts agree
   pub leftward_agree : (i : ℕ) (old new : Right) (found : Option Span) → old ≡ new → LeftOf i old new found → SpanOf P found
   leftward_agree i old new found e w =
       looked (λ k. i ≤ k) P found (none_below b l r r' xs i (sym w.old_is ∙ e ∙ w.new_is)) w.spans

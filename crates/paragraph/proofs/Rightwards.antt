@@ -1,5 +1,5 @@
 -- The walk to the right of an edit, with what it keeps.
-use Rattle.std.proofs.Common.{◌≡◌, ℕ, ◌+◌, ◌-◌, ◌<◌, ◌≤◌, ◌⊎◌, List, length, get_or, take, drop, None, Option, sym, ap, ◌∙◌, subst, inl, inr, ⊎_elim, arith}
+use Rattle.std.proofs.Common.{◌≡◌, ℕ, ◌+◌, ◌-◌, ◌<◌, ◌≤◌, ◌⊎◌, List, length, get_or, take, drop, Option, sym, ap, ◌∙◌, subst, inl, inr, ⊎_elim, arith}
 use Rattle.std.proofs.lemmas.Bool.{cases_order}
 use Rattle.paragraph.specs.declared.span.Span.{Span}
 use Rattle.rules.specs.Contexts.{after, level_at}
@@ -27,20 +27,6 @@ module _ (b : Side) (l l' : Left) (r : Right) (xs : List Class) (from : ℕ) whe
 
   abbrev Q : ℕ → Type 0
   Q = Moved from (Other b l r b l' r xs)
-
-  pub rightward_none : RightOf from l l' None
-  rightward_none =
-      let e : 0 ≡ from - from = omega arith in
-      record {
-        low = omega arith;
-        within = omega arith;
-        old_is = ap (λ (k : ℕ). left l (take k xs)) e;
-        new_is = ap (λ (k : ℕ). left l' (take k xs)) e;
-        spans = λ k p. not_yet k p.0 p.1.0;
-      }
-    where
-      not_yet : (k : ℕ) → k < from → from ≤ k → ⊥
-      not_yet k h j = omega arith
 
   -- one step from the place j: the item there and the context behind it, its two levels, and the contexts beyond it
   module _ (j : ℕ) (old new : Left) (found : Option Span) (w : RightOf j old new found) (here : j < from + length xs) (x : Class) (item : x ≡ get_or xs (j - from) none) (c : Right) (context : c ≡ right r (drop (j - from + 1) xs)) (p p' : ℕ) (level_old : p ≡ level_at b old x c) (level_new : p' ≡ level_at b new x c) (old' new' : Left) (to_old : old' ≡ after old x) (to_new : new' ≡ after new x) (found' : Option Span) where

@@ -1,9 +1,9 @@
 -- Laws of spans, for any places.
-use Rattle.std.proofs.Common.{◌≡◌, ℕ, ◌+◌, ◌-◌, ◌<◌, ◌≤◌, Bool, true, false, cond, ltb, ◌⊎◌, Some, None, Option, sym, refl, subst, ap₂, inl, inr, ⊎_elim, arith, ltb-false, ltb-true}
+use Rattle.std.proofs.Common.{◌≡◌, ℕ, ◌-◌, ◌<◌, ◌≤◌, Bool, true, false, cond, ltb, ◌⊎◌, Some, None, Option, sym, refl, subst, ap₂, inl, inr, ⊎_elim, arith, ltb-false, ltb-true}
 use Rattle.std.specs.Option.{MatchOption}
 use Rattle.std.proofs.lemmas.Bool.{cases_lt}
 use Rattle.paragraph.specs.declared.span.Span.{Span}
-use Rattle.paragraph.specs.Spans.{SpanOf, FirstOf, LastOf, earlier, later, hull, point}
+use Rattle.paragraph.specs.Spans.{SpanOf, FirstOf, earlier, later, hull, point}
 
 pub span_is_unique : (P : ℕ → Type 0) (r s : Option Span) → SpanOf P r → SpanOf P s → r ≡ s
 span_is_unique P None None h k = refl
@@ -77,25 +77,8 @@ module _ (D D' P : ℕ → Type 0) (i : ℕ) (r : Option Span) (back : (k : ℕ)
 pub looked : (D P : ℕ → Type 0) (r : Option Span) → ((k : ℕ) → P k → D k) → SpanOf (λ k. D k × P k) r → SpanOf P r
 looked D P r d h = same_places (λ k. D k × P k) P r (λ k q. q.1) (λ k p. (d k p, p)) h
 
-pub ends_span : (P : ℕ → Type 0) (i j : ℕ) → FirstOf P (Some i) → LastOf P (Some j) → SpanOf P (Some (record { first = i; end = j + 1 }))
-ends_span P i j f l =
-    let e : j ≡ j + 1 - 1 = omega arith in
-    (f.0, subst P e l.0, λ k p. (f.1 k p, low k (l.1 k p)))
-  where
-    low : (k : ℕ) → k ≤ j → k < j + 1
-    low k h = omega arith
-
 -- the first of the places below n that a search from the front found, where P holds of none beyond
 pub first_found : (P : ℕ → Type 0) (n : ℕ) (r : Option ℕ) → ((k : ℕ) → P k → k < n)
     → MatchOption r ((k : ℕ) → 0 ≤ k → k < n → P k → ⊥) (λ i. (0 ≤ i) × (i < n) × P i × ((k : ℕ) → 0 ≤ k → k < i → P k → ⊥)) → FirstOf P r
 first_found P n None below h = λ k p. h k (omega arith) (below k p) p
 first_found P n (Some i) below h = (h.2, λ k p. ⊎_elim (λ (l : k < i). absurd (h.3 k (omega arith) l p)) (λ l. l) (cases_lt k i))
-
-pub last_at : (P : ℕ → Type 0) (j : ℕ) → P (j - 1) → ((k : ℕ) → P k → k < j) → LastOf P (Some (j - 1))
-last_at P j here above = (here, λ k p. let a = above k p in omega arith)
-
--- one place less to look at from the back
-pub down : (P : ℕ → Type 0) (j : ℕ) → (P (j - 1) → ⊥) → ((k : ℕ) → P k → k < j) → (k : ℕ) → P k → k < j - 1
-down P j here above k p =
-    let a : k < j = above k p in
-    ⊎_elim (λ (h : k < j - 1). h) (λ (h : j - 1 ≤ k). let e : k ≡ j - 1 = omega arith in absurd (here (subst P e p))) (cases_lt k (j - 1))

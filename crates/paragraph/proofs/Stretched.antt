@@ -1,11 +1,11 @@
 -- The classes of a stretch of items are a stretch of the classes.
-use Rattle.std.proofs.Common.{◌≡◌, ℕ, zero, suc, ◌+◌, ◌-◌, ◌<◌, ◌≤◌, List, [], ◌∷◌, ◌++◌, map, length, get_or, take, drop, Some, None, Ok, Err, Option, Result, sym, refl, ap, ◌∙◌, arith}
+use Rattle.std.proofs.Common.{◌≡◌, ℕ, zero, suc, ◌+◌, ◌-◌, List, [], ◌∷◌, ◌++◌, map, length, get_or, take, drop, Some, None, Ok, Err, Option, Result, sym, refl, ap, ◌∙◌, arith}
 use lib.ListN.{length-map}
 use Rattle.std.specs.List.{slice_get, between}
 use Rattle.std.proofs.lemmas.List.{map-append}
 use Rattle.std.proofs.lemmas.Slice.{between_is, between_to_end}
 use Rattle.tree.specs.Measures.{Operations, total_of}
-use Rattle.tree.specs.Plain.{spliced, found, with_depth, with_sides, around_answer}
+use Rattle.tree.specs.Plain.{spliced, found, with_sides, around_answer}
 use Rattle.bidi.specs.Items.{classes}
 use Rattle.bidi.specs.declared.item.Item.{Item}
 
@@ -44,38 +44,6 @@ classes_rest items i n h = ap classes (between_to_end items i n (omega arith)) �
 
 pub classes_between : (items : List Item) (i j : ℕ) → classes (between i j items) ≡ drop i (take j (classes items))
 classes_between items i j = map-between (λ i. i.class) i j items ∙ between_is (classes items) i j
-
--- the element of an answer, or another
-element_in : {E : Type 0} → E → Result (E × ℕ) ℕ → E
-element_in d (Ok q) = q.0
-element_in d (Err n) = d
-
--- an element that was read is the one there
-pub read_is : {E : Type 0} (xs : List E) (p d : ℕ) (x : E) (e : ℕ) → Ok (x, e) ≡ with_depth d (found (slice_get xs p)) → slice_get xs p ≡ Some x
-unfolding element_in
-read_is {E} xs p d x e h = go (slice_get xs p) h
-  where
-    go : (o : Option E) → Ok (x, e) ≡ with_depth {B = ℕ} d (found o) → o ≡ Some x
-    go None h = let z : ◌≡◌ {A = ℕ} 0 1 = cc in absurd (omega arith)
-    go (Some y) h = ap (λ (z : E). Some z) (sym (ap (element_in x) h))
-
--- the depth of an answer, or another
-depth_told : {E : Type 0} → ℕ → Result (E × ℕ) ℕ → ℕ
-depth_told d (Ok q) = q.1
-depth_told d (Err n) = d
-
--- an answer comes just from a place that is there, with its depth
-pub read_told : {E : Type 0} (xs : List E) (p d : ℕ) (x : E) (e : ℕ) → Ok (x, e) ≡ with_depth d (found (slice_get xs p)) → (p < length xs) × (e ≡ d)
-unfolding depth_told
-read_told [] p d x e h = let z : ◌≡◌ {A = ℕ} 0 1 = cc in absurd (omega arith)
-read_told (y ∷ ys) zero d x e h = (omega arith, ap (depth_told e) h)
-read_told (y ∷ ys) (suc p) d x e h = let r = read_told ys p d x e h in let l = r.0 in (omega arith, r.1)
-
--- and a refusal from past the end
-pub read_past : {E : Type 0} (xs : List E) (p d n : ℕ) → Err n ≡ with_depth d (found (slice_get xs p)) → length xs ≤ p
-read_past [] p d n h = omega arith
-read_past (y ∷ ys) zero d n h = let z : ◌≡◌ {A = ℕ} 0 1 = cc in absurd (omega arith)
-read_past (y ∷ ys) (suc p) d n h = let r = read_past ys p d n h in omega arith
 
 -- the three parts of an answer, or others
 parts_in : {E T : Type 0} → T × E × T → Result (T × E × T) ℕ → T × E × T

@@ -1,5 +1,5 @@
-use Rattle.std.proofs.Common.{◌≡◌, ◌+◌, [], ◌∷◌, ◌++◌, length, get_or, take, drop, set, sym, ap, ◌∙◌, subst, arith}
-use Rattle.std.proofs.lemmas.List.{take_more, take_more_set, take_all, length-take-le}
+use Rattle.std.proofs.Common.{◌≡◌, ◌+◌, [], ◌∷◌, ◌++◌, get_or, take, set, sym, ap, ◌∙◌, subst, arith}
+use Rattle.std.proofs.lemmas.List.{take_more, take_more_set, length-take-le}
 use Rattle.tree.proofs.Histories.{spare_more}
 use Rattle.paragraph.specs.Paragraphs.{room_of, plain_of}
 use Rattle.history.specs.Plain.{after_change, after_all, Answer, Answered}
@@ -33,19 +33,3 @@ loop-i-preserved c =
       spare_more outcomes c.args.outcomes.now i r inv.2,
       c.change.ensures.room ∙ inv.3,
     )
-
-pub returns : goal.returns
-returns c =
-    let inv = c.loop-i.invariant in
-    let room = room_of c.args.paragraph.now in
-    let recorded = c.args.recorded.now in
-    let start = plain_of c.args.paragraph.now in
-    let changes = c.args.changes.now in
-    let top = c.loop-i.auto.i-end in
-    let all : c.loop-i.i ≡ length changes = omega arith in
-    let whole = take_all c.loop-i.i changes c.loop-i-test.false in
-    record {
-      plain = inv.0 ∙ ap (after_all room recorded start) whole;
-      answered = subst (λ l. Answered room recorded start l (take (length changes) c.loop-i.outcomes)) whole (subst (λ n. Answered room recorded start (take c.loop-i.i changes) (take n c.loop-i.outcomes)) all inv.1);
-      spare = ap (λ n. drop n c.loop-i.outcomes) (sym all) ∙ inv.2 ∙ ap (λ n. drop n c.args.outcomes.now) all;
-    }

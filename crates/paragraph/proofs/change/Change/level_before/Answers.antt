@@ -1,13 +1,10 @@
-use Rattle.std.proofs.Common.{◌+◌, ap, ◌∙◌, arith}
+use Rattle.std.proofs.Common.{◌+◌, ap, ◌∙◌}
 use Rattle.bidi.specs.Items.{classes}
 use Rattle.paragraph.specs.Paragraphs.{items_of}
 use Rattle.paragraph.specs.Steps.{right}
 use Rattle.paragraph.proofs.Decides.{level_front}
 use Rattle.paragraph.proofs.Stretched.{classes_between}
 use Rattle.paragraph.proofs.change.Change.level_before.Goals as goal
-
-pub overflow_add-i : goal.overflow_add-i
-overflow_add-i c = let o = c.requires in let w = c.args.self.now.fits in let few = c.args.self.now.paragraph.now.few in omega arith
 
 pub returns : goal.returns
 returns c =

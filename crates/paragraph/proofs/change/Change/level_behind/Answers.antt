@@ -1,13 +1,10 @@
-use Rattle.std.proofs.Common.{◌+◌, ap, ◌∙◌, arith}
+use Rattle.std.proofs.Common.{◌+◌, ap, ◌∙◌}
 use Rattle.bidi.specs.Items.{classes}
 use Rattle.paragraph.specs.Paragraphs.{items_of}
 use Rattle.paragraph.specs.Steps.{left}
 use Rattle.paragraph.proofs.Decides.{level_rest}
 use Rattle.paragraph.proofs.Stretched.{classes_between}
 use Rattle.paragraph.proofs.change.Change.level_behind.Goals as goal
-
-pub overflow_add-i : goal.overflow_add-i
-overflow_add-i c = let w = c.requires.within in let few = c.args.self.now.paragraph.now.few in omega arith
 
 pub returns : goal.returns
 returns c =

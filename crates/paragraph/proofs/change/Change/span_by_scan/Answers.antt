@@ -1,7 +1,5 @@
 use Rattle.std.proofs.Common.{arith}
-use Rattle.paragraph.specs.Edges.{IsChanged}
 use Rattle.paragraph.proofs.Decides.{changed_there}
-use Rattle.paragraph.proofs.SpanLaws.{ends_span}
 use Rattle.paragraph.proofs.change.Change.span_by_scan.Goals as goal
 
 pub overflow_add-result : goal.overflow_add-result
@@ -10,6 +8,3 @@ overflow_add-result c =
     let few = e.paragraph.now.few in
     let a = changed_there e c.in_ok-last.last c.in_ok-last.ensures.0 in
     omega arith
-
-pub returns : goal.returns
-returns c = ends_span (IsChanged c.args.self.now) c.in_ok-first.first c.in_ok-last.last c.in_ok-first.ensures c.in_ok-last.ensures

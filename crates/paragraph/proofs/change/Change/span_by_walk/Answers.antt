@@ -1,4 +1,4 @@
-use Rattle.std.proofs.Common.{◌+◌, ◌⊎◌, take, drop, sym, subst, arith}
+use Rattle.std.proofs.Common.{◌+◌, ◌⊎◌, take, drop, sym, subst}
 use Rattle.rules.specs.Contexts.{start, end}
 use Rattle.bidi.specs.Items.{classes}
 use Rattle.paragraph.specs.Edges.{ChangedBy, IsChanged, Other, OtherBefore, OtherBehind, Moved}
@@ -6,9 +6,6 @@ use Rattle.paragraph.specs.Paragraphs.{items_of}
 use Rattle.paragraph.specs.Spans.{SpanOf, Given}
 use Rattle.paragraph.proofs.SpanLaws.{hull_span}
 use Rattle.paragraph.proofs.change.Change.span_by_walk.Goals as goal
-
-pub overflow_add-self : goal.overflow_add-self
-overflow_add-self c = let w = c.args.self.now.fits in let few = c.args.self.now.paragraph.now.few in omega arith
 
 pub returns : goal.returns
 unfolding IsChanged

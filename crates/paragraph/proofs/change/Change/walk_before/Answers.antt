@@ -6,7 +6,7 @@ use Rattle.paragraph.specs.Paragraphs.{items_of}
 use Rattle.paragraph.specs.Steps.{left, none}
 use Rattle.paragraph.specs.Spans.{hull}
 use Rattle.paragraph.specs.declared.change.Change.{Change}
-use Rattle.paragraph.proofs.Leftwards.{leftward_none, leftward_other, leftward_same, leftward_front, leftward_agree}
+use Rattle.paragraph.proofs.Leftwards.{leftward_other, leftward_same, leftward_agree}
 use Rattle.paragraph.proofs.Stretched.{length-classes}
 use Rattle.paragraph.proofs.change.Change.walk_before.Goals as goal
 use Rattle.paragraph.proofs.change.Change.walk_before.Goals.{then-level, else-level}
@@ -14,11 +14,6 @@ use Rattle.paragraph.proofs.change.Change.walk_before.Goals.{then-level, else-le
 -- the items before the place are as many as it says
 front : (e : Change) → length (take e.place (classes (items_of e.paragraph.now))) ≡ e.place
 front e = let h = e.fits in let n = length-classes (items_of e.paragraph.now) in length-take-le e.place (classes (items_of e.paragraph.now)) (omega arith)
-
-pub loop-i-init : goal.loop-i-init
-loop-i-init c =
-    let e = c.args.self.now in
-    leftward_none e.was.base (start e.was.base) e.was.right e.is.right (take e.place (classes (items_of e.paragraph.now))) e.place (front e)
 
 pub loop-i-preserved : goal.loop-i-preserved
 loop-i-preserved c =
@@ -41,12 +36,6 @@ loop-i-preserved c =
           leftward_same b (start b) e.was.right e.is.right (take e.place cs) i (i - 1) c.loop-i.old c.loop-i.new c.loop-i.found w step
           _ item _ context _ _ c.level.ensures.is c.level-in-loop-i.ensures.is _ _ c.before-old.ensures c.before-new.ensures _ v.found-is v.if-level.false
     ]
-
-pub returns-after-loop-i : goal.returns-after-loop-i
-returns-after-loop-i c =
-    let e = c.args.self.now in
-    leftward_front e.was.base (start e.was.base) e.was.right e.is.right (take e.place (classes (items_of e.paragraph.now)))
-    c.loop-i.i c.loop-i.old c.loop-i.new c.loop-i.found (omega arith) c.loop-i.invariant
 
 pub returns-then-eq : goal.returns-then-eq
 returns-then-eq c =

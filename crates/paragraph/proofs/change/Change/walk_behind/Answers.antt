@@ -11,16 +11,10 @@ use Rattle.bidi.specs.Items.{classes}
 use Rattle.paragraph.specs.Paragraphs.{items_of}
 use Rattle.paragraph.specs.Spans.{hull}
 use Rattle.paragraph.specs.Steps.{right, none}
-use Rattle.paragraph.proofs.Rightwards.{rightward_none, rightward_other, rightward_same, rightward_end, rightward_agree}
+use Rattle.paragraph.proofs.Rightwards.{rightward_other, rightward_same, rightward_end, rightward_agree}
 use Rattle.paragraph.proofs.Stretched.{length-classes}
 use Rattle.paragraph.proofs.change.Change.walk_behind.Goals as goal
 use Rattle.paragraph.proofs.change.Change.walk_behind.Goals.{then-level, else-level}
-
-pub loop-j-init : goal.loop-j-init
-loop-j-init c =
-    let e = c.args.self.now in
-    let from = e.place + e.count in
-    rightward_none e.was.base e.was.left e.is.left (end e.was.base) (drop from (classes (items_of e.paragraph.now))) from
 
 pub loop-j-preserved : goal.loop-j-preserved
 loop-j-preserved c =

@@ -19,24 +19,6 @@ returns-in_err-item c =
     let r = err_from_is_err_and c.from_residual.result c.from_residual.ensures.1 in
     rw (r.1, r.2, read.0) (sym (cond-false (ltb place (length (levels_in p))) (Ok (column_of (levels_in p) (widths (items_of p)) place, at (widths (items_of p)) place)) _ (le-ltb place (length (levels_in p)) (omega arith))))
 
-pub at-requires : goal.at-requires
-at-requires c =
-    let h = place_there c.args.self.now c.args.place c.in_ok-item.item _ c.in_ok-item.ensures.answer in
-    let e = ap (λ q. length (items_of q)) c.levels-levels.ensures in
-    omega arith
-
-pub width_of-column-requires : goal.width_of-column-requires
-width_of-column-requires c = let h = place_there c.args.self.now c.args.place c.in_ok-item.item _ c.in_ok-item.ensures.answer in record { ordered = omega arith; within = omega arith }
-
-pub column_at_one-column-requires : goal.column_at_one-column-requires
-column_at_one-column-requires c = record {
-  within =
-      let h = place_there c.args.self.now c.args.place c.in_ok-item.item _ c.in_ok-item.ensures.answer in
-      let e = ap (λ q. length (items_of q)) c.levels-levels.ensures in
-      omega arith;
-  level = let e = c.at.ensures in let f = c.in-1.is in omega arith;
-}
-
 pub column_at_two-column-requires : goal.column_at_two-column-requires
 column_at_two-column-requires c = record {
   within =

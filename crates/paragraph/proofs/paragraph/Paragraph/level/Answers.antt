@@ -8,12 +8,6 @@ use Rattle.paragraph.specs.Paragraphs.{items_of, levels_in}
 use Rattle.paragraph.proofs.Levels.{length-levels}
 use Rattle.paragraph.proofs.paragraph.Paragraph.level.Goals as goal
 
-pub at-requires : goal.at-requires
-at-requires c =
-    let h = slice_get_within (items_of c.args.self.now) c.args.place _ c.in_ok-depth.ensures.answer.0 in
-    let e = ap (λ q. length (items_of q)) c.levels.ensures in
-    omega arith
-
 pub returns-clause-answer : goal.returns-clause-answer
 returns-clause-answer c =
     let p = c.args.self.now in

@@ -1,5 +1,4 @@
-use Rattle.std.proofs.Common.{◌+◌, length, take, drop, sym, ap, ◌∙◌, rules}
-use Rattle.std.proofs.lemmas.Bool.{lt-ltb}
+use Rattle.std.proofs.Common.{◌+◌, take, drop, sym, ap, ◌∙◌}
 use Rattle.bidi.specs.Sums.{column_ops, context_ops}
 use Rattle.tree.specs.Plain.{numbered}
 use Rattle.paragraph.specs.Paragraphs.{items_of}
@@ -8,9 +7,6 @@ use Rattle.paragraph.specs.Totals.{total_ops}
 use Rattle.paragraph.proofs.Stored.{second_total}
 use Rattle.paragraph.proofs.Stretched.{map-take, map-drop, map_at, around_is}
 use Rattle.paragraph.proofs.paragraph.Paragraph.surroundings.Goals as goal
-
-pub unwrap-requires : goal.unwrap-requires
-unwrap-requires c = let there = c.around.ensures.refusal ∙ lt-ltb c.args.place (length (items_of c.args.self.now)) c.requires in search rules
 
 pub returns : goal.returns
 returns c =
