@@ -1,7 +1,6 @@
 -- What the plain paragraph answers to an edit, case by case, and what a paragraph keeps.
 use Rattle.std.proofs.Common.{◌≡◌, ℕ, ◌+◌, ◌-◌, ◌<◌, ◌≤◌, Bool, true, false, cond, ltb, leb, List, ◌++◌, length, take, drop, Some, None, Ok, Err, Option, Result, sym, refl, ap, ◌∙◌, arith, length-append, length-drop}
 use mathlib.Core.HLevel.{is_prop→PathP}
-use mathlib.Core.Logic.{∥∥₁_prop}
 use native.Mathlib.Bridge.{le_prop}
 use Rattle.std.proofs.lemmas.List.{length-take-le}
 use Rattle.std.proofs.lemmas.Bool.{lt-ltb, le-ltb, le-leb, ltb-true, ltb-false, leb-true, and_parts, and_from, cond-true, cond-false}
@@ -12,7 +11,6 @@ use Rattle.tree.specs.declared.tree.Tree.{Tree}
 use Rattle.bidi.specs.declared.item.Item.{Item}
 use Rattle.paragraph.specs.Faults.{Refusal, plain}
 use Rattle.paragraph.specs.Plain.{first_wide, unless_wide, edit_answer, after_edit}
-use Rattle.paragraph.specs.Totals.{total_ops}
 use Rattle.paragraph.specs.declared.paragraph.Paragraph.{Paragraph}
 
 pub same_paragraph : (p q : Paragraph) → p.tree ≡ q.tree → p.direction ≡ q.direction → p ≡ q

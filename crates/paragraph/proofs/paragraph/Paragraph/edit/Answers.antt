@@ -1,5 +1,4 @@
 use Rattle.std.proofs.Common.{◌+◌, ◌≤◌, length, Err, sym, refl, ap, ◌∙◌, subst, arith}
-use mathlib.Core.Logic.{∥∥₁_map}
 use borrow.Rule.Reborrow.{re_v}
 use Rattle.std.proofs.lemmas.Result.{err_from_is_err_and}
 use Rattle.tree.specs.Trees.{elements_of}
