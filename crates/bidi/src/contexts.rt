@@ -45,8 +45,6 @@ impl Contexts {
 }
 
 /// A joining acts as the one part after the other: left contexts go through the first part first, right contexts through the second.
-pub fn joins_act_in_turn() -> u8
+pub fn joins_act_in_turn()
     ensures { JoinsActInTurn }
-{
-    0
-}
+{}

@@ -41,6 +41,7 @@ fn change(
     }
 }
 
+// Kept: beside the tree's, here and for questions: one function over both would take the call as a closure that changes what it is made on, of which only its steps are known.
 /// Carries out recorded changes, one after the other, and writes what each was answered.
 pub(crate) fn change_all(
     paragraph: &mut Paragraph<'_, '_>,

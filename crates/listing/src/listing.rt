@@ -22,6 +22,7 @@ fn add_columns(text: &mut String, levels: &[u8], items: &[Item]) -> Result<(), A
     requires { (length levels.now ≡ length items.now) × (AllByRecursion (λ l. l ≤ 2) levels.now) }
     ensures { OnOk result (string_bytes text.new ≡ string_bytes text.old ++ spaced (columns_from levels.now items.now)) }
 {
+    // Kept: by place, since a column is asked for by its place.
     for place in 0..items.len() {
         let column = column(levels, items, place).unwrap();
         write!(text, " {column}")?;

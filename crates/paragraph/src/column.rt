@@ -24,6 +24,7 @@ impl Levels<'_, '_, '_> {
         self.stretch(place, |level| level >= high)
     }
 
+    // Kept: beside bidi's over slices, here and at level 2: one function over both would take a trait with stretches and widths, longer than the sums that it saves.
     /// The column of an item at level 1: what stands before its stretch, then what stands behind it in the stretch.
     fn column_at_one(&self, place: usize) -> u32
         requires within { place < length (items_of self.now.paragraph.now) }

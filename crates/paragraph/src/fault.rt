@@ -32,6 +32,7 @@ impl From<Fault> for ParagraphFault {
 }
 
 impl ParagraphFault {
+    // Kept: clients are told a refusal by its number; here alone it is one.
     /// The number by which the refusal is told.
     pub fn number(self) -> u8
         ensures { result ≡ number_of self }

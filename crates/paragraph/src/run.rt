@@ -17,10 +17,9 @@ pub struct Run {
 }
 
 /// A place lies in one run.
-pub fn runs_are_unique() -> u8
+pub fn runs_are_unique()
     ensures { RunIsUnique }
 {
-    0
 }
 
 impl Paragraph<'_, '_> {

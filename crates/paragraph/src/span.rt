@@ -65,8 +65,7 @@ pub(crate) fn hull(a: Option<Span>, b: Option<Span>) -> Option<Span>
 }
 
 /// A change has one span.
-pub fn spans_are_unique() -> u8
+pub fn spans_are_unique()
     ensures { SpanIsUnique }
 {
-    0
 }

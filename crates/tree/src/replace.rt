@@ -93,6 +93,7 @@ impl<E: Copy, T: Measure<E>> Tree<'_, E, T> {
         }
     }
 
+    // Kept: beside `set_all`: one loop over both would take the call as a closure that changes the tree, of which only its steps are known.
     /// Puts elements before a place.
     fn insert_all(&mut self, place: usize, elements: &[E])
         requires within { place ≤ length (elements_of self.old) }
