@@ -54,7 +54,7 @@ pub(crate) fn change_all(
     ensures answered { Answered (room_of paragraph.old) recorded.now (plain_of paragraph.old) changes.now (take (length changes.now) outcomes.new) }
     ensures spare { drop (length changes.now) outcomes.new ≡ drop (length changes.now) outcomes.old }
 {
-    // Kept: as in ask_all, over `outcomes.iter_mut().zip(changes)` what the slots hold after the loop stayed open.
+    // Kept: tried over `outcomes.iter_mut().zip(changes)`; what the slots hold after the loop stayed open.
     for (i, next) in changes.iter().enumerate() {
         outcomes[i] = change(paragraph, recorded, *next);
     }
