@@ -19,8 +19,7 @@ pub struct Run {
 /// A place lies in one run.
 pub fn runs_are_unique()
     ensures { RunIsUnique }
-{
-}
+{}
 
 impl Paragraph<'_, '_> {
     /// The run that holds a place. The next run begins at its end, so a span's runs are told by asking at its first place, then at the end of each run.

@@ -67,5 +67,4 @@ pub(crate) fn hull(a: Option<Span>, b: Option<Span>) -> Option<Span>
 /// A change has one span.
 pub fn spans_are_unique()
     ensures { SpanIsUnique }
-{
-}
+{}
