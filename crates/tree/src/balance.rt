@@ -23,6 +23,7 @@ pub(crate) fn row_over<E: Copy, T: Measure<E>>(rows: &[Row<E, T>], row: Row<E, T
     }
 }
 
+// Kept: the rows, an index and a row apart, here and in what follows, since each is another at every write.
 /// Writes a row over its place in the table. Of the one given, only its element and its links count.
 pub(crate) fn write_node<E: Copy, T: Measure<E>>(rows: &mut [Row<E, T>], i: u16, row: Row<E, T>)
     requires { ∥ ((a : Shape E T) × (b : Shape E T) × Split rows.old row.left i row.right a b) ∥₁ }

@@ -62,15 +62,15 @@ impl<'a, E: Copy, T: Measure<E>> Tree<'a, E, T> {
         ensures refused { Untouched result self.old self.new }
         ensures capacity { capacity_of self.new ≡ capacity_of self.old }
     {
-        let heads = self.heads;
-        if place > heads.count as usize {
+        let count = self.len();
+        if place > count {
             return Err(Fault::Place);
         }
-        if heads.count as usize >= self.capacity() {
+        if count >= self.capacity() {
             return Err(Fault::Full);
         }
         // Kept: `as u16` here and below, since the place was tested; `u16::try_from` would bring an error that cannot come.
-        self.heads = insert_in(self.rows, heads, place as u16, element);
+        self.heads = insert_in(self.rows, self.heads, place as u16, element);
         Ok(())
     }
 
@@ -81,11 +81,11 @@ impl<'a, E: Copy, T: Measure<E>> Tree<'a, E, T> {
         ensures refused { Untouched result self.old self.new }
         ensures capacity { capacity_of self.new ≡ capacity_of self.old }
     {
-        let heads = self.heads;
-        if place >= heads.count as usize {
+        let count = self.len();
+        if place >= count {
             return Err(Fault::Place);
         }
-        let (heads, element) = remove_in(self.rows, heads, place as u16);
+        let (heads, element) = remove_in(self.rows, self.heads, place as u16);
         self.heads = heads;
         Ok(element)
     }
@@ -96,7 +96,7 @@ impl<'a, E: Copy, T: Measure<E>> Tree<'a, E, T> {
         ensures deep { IfOk result (λ told. least told.1 ≤ length (elements_of self.now)) }
         ensures sparse { (k : ℕ) → places_at (depth_in self.now) k (length (elements_of self.now)) ≤ 2 ^ (k - 1) }
     {
-        if place >= self.heads.count as usize {
+        if place >= self.len() {
             return Err(Fault::Place);
         }
         Ok(read_below(self.rows, self.heads.root, place as u16))
@@ -107,7 +107,7 @@ impl<'a, E: Copy, T: Measure<E>> Tree<'a, E, T> {
         ensures answer { numbered result ≡ around_answer T.ops (elements_of self.now) place }
         ensures refusal { is_ok result ≡ nat_lt place (length (elements_of self.now)) }
     {
-        if place >= self.heads.count as usize {
+        if place >= self.len() {
             return Err(Fault::Place);
         }
         Ok(around_below(self.rows, self.heads.root, place as u16))
@@ -118,7 +118,7 @@ impl<'a, E: Copy, T: Measure<E>> Tree<'a, E, T> {
         ensures answer { numbered result ≡ copy_answer (elements_of self.now) first (length out.old) }
         ensures out { out.new ≡ copied (elements_of self.now) first out.old }
     {
-        let count = self.heads.count as usize;
+        let count = self.len();
         if first > count {
             return Err(Fault::Place);
         }
@@ -135,7 +135,7 @@ impl<'a, E: Copy, T: Measure<E>> Tree<'a, E, T> {
         if first > end {
             return Err(Fault::Stretch);
         }
-        if end > self.heads.count as usize {
+        if end > self.len() {
             return Err(Fault::Stretch);
         }
         Ok(total_below(self.rows, self.heads.root, first as u16, end as u16))
@@ -149,6 +149,6 @@ impl<'a, E: Copy, T: Measure<E>> Tree<'a, E, T> {
         if whole.total.weight() <= weight {
             return Err(Fault::Weight);
         }
-        Ok(seek_below(self.rows, self.heads.root, weight) as usize)
+        Ok(usize::from(seek_below(self.rows, self.heads.root, weight)))
     }
 }

@@ -18,13 +18,17 @@ returns-then-first-count g c =
     let tree = c.args.self.now in
     let xs = elements_of tree in
     let n = count_is {h = tree.heads} tree.sound in
+    let q = c.len-count.ensures.count in
     record {
       answer = sym (cond-true (ltb (length xs) c.args.first) _ _ (lt-ltb (length xs) c.args.first (omega arith)));
       out = copy_none xs c.args.first c.args.out.now (omega arith);
     }
 
 pub copy_below-requires : goal.copy_below-requires
+unfolding shape elements_of
 copy_below-requires g c =
+    let q = c.len-count.ensures.count in
+    let k = count_is {h = c.args.self.now.heads} c.args.self.now.sound in
     let m = c.min-copied.ensures in
     let l = length-between c.args.out.now 0 c.min-copied.result (omega arith) in
     ∥∥₁_map c.args.self.now.sound (λ w. let n = w.2.counted in (w.0, w.2.under, omega arith))
@@ -40,6 +44,7 @@ returns g c =
     let out = c.args.out.now in
     let l = length-between out 0 copied (omega arith) in
     let n = count_is {h = tree.heads} tree.sound in
+    let q = c.len-count.ensures.count in
     let told : copied ≡ min (length out) (length xs - first) = omega arith in
     let many : first + length (between 0 copied out) - first ≡ copied = omega arith in
     let less : copied - 0 ≡ copied = omega arith in

@@ -4,14 +4,14 @@ use base.Stored.{Coded-set}
 use Rattle.std.proofs.lemmas.Option.{slice_get_past}
 use Rattle.tree.specs.Plain.{found, with_depth}
 use Rattle.tree.specs.Shapes.{depth}
-use Rattle.tree.specs.Trees.{shape, elements_of, depth_in, least}
+use Rattle.tree.specs.Trees.{shape, capacity_of, elements_of, depth_in, least}
 use Rattle.tree.proofs.Facts.{count_is, found_is, number_is, deep_enough, sparse_enough}
 use Rattle.tree.proofs.Plains.{read_found}
 use Rattle.tree.proofs.tree.Tree.read.Goals as goal
 
-pub returns-then-place-self : goal.returns-then-place-self
+pub returns-then-place-len : goal.returns-then-place-len
 unfolding shape elements_of depth_in
-returns-then-place-self g c =
+returns-then-place-len g c =
     let tree = c.args.self.now in
     let n = count_is {h = tree.heads} tree.sound in
     record {
@@ -21,7 +21,11 @@ returns-then-place-self g c =
     }
 
 pub read_below-requires : goal.read_below-requires
-read_below-requires g c = ∥∥₁_map c.args.self.now.sound (λ w. let n = w.2.counted in (w.0, w.2.under, omega arith))
+unfolding shape elements_of
+read_below-requires g c =
+    let l = c.len.ensures.count in
+    let m = count_is {h = c.args.self.now.heads} c.args.self.now.sound in
+    ∥∥₁_map c.args.self.now.sound (λ w. let n = w.2.counted in (w.0, w.2.under, omega arith))
 
 pub returns : goal.returns
 unfolding shape elements_of depth_in
@@ -29,6 +33,8 @@ returns g c =
     let tree = c.args.self.now in
     let p = c.args.place in
     let told = c.read_below.result in
+    let l = c.len.ensures.count in
+    let m = count_is {h = tree.heads} tree.sound in
     let element = found_is {h = tree.heads} (Coded-set g.row.E.coded) tree.sound p told.0 (λ w. let n = w.2.counted in (c.read_below.ensures w.0 w.2.under (omega arith)).0) in
     let deep : depth_in tree p ≡ told.1 = number_is {h = tree.heads} tree.sound (λ s. depth s p) told.1 (λ w. let n = w.2.counted in sym (c.read_below.ensures w.0 w.2.under (omega arith)).1) in
     record {
@@ -36,3 +42,7 @@ returns g c =
       deep = subst (λ d. least d ≤ length (elements_of tree)) deep (deep_enough {h = tree.heads} tree.sound p);
       sparse = sparse_enough {h = tree.heads} tree.sound;
     }
+
+pub overflow_cast-place : goal.overflow_cast-place
+unfolding capacity_of
+overflow_cast-place g c = let r = c.len.ensures.room in omega arith

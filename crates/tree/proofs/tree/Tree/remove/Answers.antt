@@ -5,11 +5,12 @@ use Rattle.tree.proofs.Facts.{count_is, sound_removed, elements_removed, totals_
 use Rattle.tree.proofs.Plains.{remove_no_place, remove_found}
 use Rattle.tree.proofs.tree.Tree.remove.Goals as goal
 
-pub returns-then-place-heads : goal.returns-then-place-heads
+pub returns-then-place-count : goal.returns-then-place-count
 unfolding shape elements_of
-returns-then-place-heads g c =
+returns-then-place-count g c =
     let tree = c.args.self.now in
     let n = count_is {h = tree.heads} tree.sound in
+    let l = c.len-count.ensures.count in
     let a = remove_no_place (elements_of tree) c.args.place (omega arith) in
     record { answer = a.0; elements = a.1; refused = refl; capacity = refl }
 
@@ -28,6 +29,8 @@ returns g c =
     let tree = c.args.self.now in
     let k = g.T.Measure.ops in
     let t = c.remove_in-element.ensures in
+    let l = c.len-count.ensures.count in
+    let n = count_is {h = tree.heads} tree.sound in
     let a = remove_found (elements_of tree) c.args.place c.remove_in-element.result.1 (found_removed k {was = tree.heads} tree.sound (Coded-set g.row.E.coded) t) in
     record {
       answer = a.0;
@@ -35,3 +38,14 @@ returns g c =
       refused = tt;
       capacity = let l = c.remove_in-element.auto.rows in omega arith;
     }
+
+pub overflow_cast-place : goal.overflow_cast-place
+unfolding capacity_of
+overflow_cast-place g c = let r = c.len-count.ensures.room in omega arith
+
+pub remove_in-element-requires-clause-within : goal.remove_in-element-requires-clause-within
+unfolding shape elements_of
+remove_in-element-requires-clause-within g c =
+    let l = c.len-count.ensures.count in
+    let n = count_is {h = c.args.self.now.heads} c.args.self.now.sound in
+    omega arith

@@ -30,5 +30,5 @@ returns g c =
     let w = c.args.weight in
     let e = weight_in g.T.Measure.laws {h = tree.heads} tree.sound tree.totals c.part_of-whole.result (λ w. c.part_of-whole.ensures w.0 w.2.under) in
     let b = c.weight.ensures in
-    ap Ok (place_in g.T.Measure.laws {h = tree.heads} tree.sound tree.totals w c.seek_below.result (λ x u. c.seek_below.ensures.place x.0 x.2.under u))
+    ap Ok (c.from.ensures ∙ place_in g.T.Measure.laws {h = tree.heads} tree.sound tree.totals w c.seek_below.result (λ x u. c.seek_below.ensures.place x.0 x.2.under u))
     ∙ sym (cond-false (leb (k.weight (total_of k (elements_of tree))) w) (Err 4) (Ok (first_over k w k.unit (elements_of tree))) (lt-leb (k.weight (total_of k (elements_of tree))) w (omega arith)))
