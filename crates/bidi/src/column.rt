@@ -31,7 +31,7 @@ fn high_before(levels: &[u8], k: u8) -> usize
 }
 
 /// How many levels from the start are k or above, up to the first that is lower.
-fn high_on(levels: &[u8], k: u8) -> usize
+fn high_from(levels: &[u8], k: u8) -> usize
     ensures is { result ≡ prefix_len (λ l. nat_le k l) levels.now }
     ensures within { result ≤ length levels.now }
 {
@@ -55,7 +55,7 @@ impl Spot<'_> {
         ensures { Stretch self.now.levels.now k self.now.place result.start result.end }
     {
         let (before, rest) = self.levels.split_at(self.place);
-        self.place - high_before(before, k)..self.place + high_on(rest, k)
+        self.place - high_before(before, k)..self.place + high_from(rest, k)
     }
 
     /// The column of an item at level 1: what stands before its stretch, then what stands behind it in the stretch.
@@ -102,10 +102,10 @@ pub fn column(levels: &[u8], items: &[Item], place: usize) -> Result<u32, Fault>
     if place >= items.len() {
         return Err(Fault::Place);
     }
-    Spot {
+    let spot = Spot {
         levels,
         items,
         place,
-    }
-    .column()
+    };
+    spot.column()
 }

@@ -41,7 +41,7 @@ fn turn_run(levels: &[u8], list: &mut [usize], i: usize, k: u8) -> usize
 fn turn(levels: &[u8], list: &mut [usize], k: u8)
     ensures { list.new ≡ reversed (number_at levels.now) k list.old }
 {
-    // Kept: over `list.split_mut(|place| level_of(levels, *place) < k)` the proof didn't close: no fact then tells what the list holds.
+    // Kept: tried over `list.split_mut(|place| level_of(levels, *place) < k)`; what the list holds after the loop stayed open.
     let mut i = 0;
     while i < list.len() {
         i = turn_run(levels, list, i, k) + 1;

@@ -22,7 +22,7 @@ fn gather(items: &[Item], bytes: &mut [u8]) -> u8
 {
     let mut right: u8 = 0;
     let mut strong: u8 = 0;
-    // Kept: by place, since over `bytes.iter_mut().rev()` in a `zip` the proof didn't close: no fact then tells what the bytes hold.
+    // Kept: tried over `bytes.iter_mut().rev()` in a `zip`; what the bytes hold after the loop stayed open.
     for (place, item) in items.iter().enumerate().rev() {
         bytes[place] = right;
         right = join_right(right_number(item.class), right);
@@ -38,7 +38,7 @@ fn settle(base: Side, items: &[Item], bytes: &mut [u8])
 {
     let end = Right::end(base);
     let mut left = Left::start(base);
-    // Kept: by place, since over `bytes.iter_mut().zip(items)` the proof didn't close: no fact then tells what the bytes hold.
+    // Kept: tried over `bytes.iter_mut().zip(items)`; what the bytes hold after the loop stayed open.
     for (place, item) in items.iter().enumerate() {
         bytes[place] = level(base, left, item.class, before_part(bytes[place], end));
         left = left.after(item.class);

@@ -36,7 +36,6 @@ impl Measure<Entry> for PageSums {
     }
 
     fn weight(self) -> u32 {
-        let PageSums { lines, .. } = self;
-        lines
+        self.lines
     }
 }

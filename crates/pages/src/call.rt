@@ -43,7 +43,7 @@ impl From<PageFault> for Refusal {
 }
 
 impl Refusal {
-    // Kept: clients are told a refusal by its number; here alone it is one.
+    // Kept: clients are told a refusal by its number, by this call; nowhere else is it a number.
     /// The number by which the refusal is told.
     pub(crate) fn number(self) -> u8
         ensures { result ≡ number_of self }

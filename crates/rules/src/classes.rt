@@ -1,39 +1,39 @@
-// The classes of items, and the direction of a paragraph.
+//! The classes of items, and the direction of a paragraph.
 ghost use Rattle.rules.specs.Classes.{letter};
 ghost use Rattle.rules.specs.Contexts.{strong_of};
 ghost use Rattle.rules.specs.Rules.{P2, base_direction, base_level};
 ghost use Rattle.std.specs.Prelude.{◌≡◌, List};
 
-// The bidirectional class of an item, under the standard's short name.
+/// The bidirectional class of an item, under the standard's short name.
 #[derive(Clone, Copy)]
 pub enum Class {
-    // Left-to-right letter.
+    /// Left-to-right letter.
     L,
-    // Right-to-left letter.
+    /// Right-to-left letter.
     R,
-    // Right-to-left Arabic letter.
+    /// Right-to-left Arabic letter.
     AL,
-    // European number.
+    /// European number.
     EN,
-    // European number separator.
+    /// European number separator.
     ES,
-    // European number terminator.
+    /// European number terminator.
     ET,
-    // Arabic number.
+    /// Arabic number.
     AN,
-    // Common number separator.
+    /// Common number separator.
     CS,
-    // Nonspacing mark.
+    /// Nonspacing mark.
     NSM,
-    // Segment separator.
+    /// Segment separator.
     S,
-    // Whitespace.
+    /// Whitespace.
     WS,
-    // Other neutral.
+    /// Other neutral.
     ON,
 }
 
-// A strong class.
+/// A strong class.
 #[derive(Clone, Copy, PartialEq, Eq)]
 pub enum Strong {
     L,
@@ -41,14 +41,15 @@ pub enum Strong {
     AL,
 }
 
-// One of the two directions: left-to-right or right-to-left.
+/// One of the two directions: left-to-right or right-to-left.
 #[derive(Clone, Copy, PartialEq, Eq)]
 pub enum Side {
     L,
     R,
 }
 
-// The direction that a paragraph is given: one of the two, or that of its first strong item.
+// Kept: not `Option<Side>`, since it is public, and `None` would not say that the first strong item decides.
+/// The direction that a paragraph is given: one of the two, or that of its first strong item.
 #[derive(Clone, Copy, PartialEq, Eq)]
 pub enum Direction {
     Left,
@@ -56,7 +57,7 @@ pub enum Direction {
     FirstStrong,
 }
 
-// The class of a letter in this direction.
+/// The class of a letter in this direction.
 impl From<Side> for Class {
     ghost from_gives = { λ side class. class ≡ letter side };
 
@@ -68,7 +69,7 @@ impl From<Side> for Class {
     }
 }
 
-// The strong class of a letter in this direction.
+/// The strong class of a letter in this direction.
 impl From<Side> for Strong {
     ghost from_gives = { λ side strong. strong ≡ strong_of side };
 
@@ -81,7 +82,7 @@ impl From<Side> for Strong {
 }
 
 impl Side {
-    // The base level of a paragraph in this direction.
+    /// The base level of a paragraph in this direction.
     pub fn level(self) -> u8
         ensures { result ≡ base_level self }
     {
@@ -93,7 +94,7 @@ impl Side {
 }
 
 impl Direction {
-    // The base direction of every paragraph whose first strong class is `first`.
+    /// The base direction of every paragraph whose first strong class is `first`.
     pub fn base(self, first: Option<Strong>) -> Side
         ensures { (cs : List Class) → first ≡ P2 cs → result ≡ base_direction self cs }
     {

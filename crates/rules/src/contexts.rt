@@ -1,4 +1,4 @@
-// What an item's level depends on: the contexts on both sides of it.
+//! What an item's level depends on: the contexts on both sides of it.
 ghost use Rattle.rules.specs.Claims.{IsLevel};
 ghost use Rattle.rules.specs.Contexts.{
   after as left_after,
@@ -20,7 +20,7 @@ ghost use Rattle.std.specs.Prelude.{◌≡◌};
 
 use crate::classes::{Class, Side, Strong};
 
-// What the item before is: strong, a number, a terminator, a terminator joined to a European number, or neutral.
+/// What the item before is: strong, a number, a terminator, a terminator joined to a European number, or neutral.
 #[derive(Clone, Copy, PartialEq, Eq)]
 pub enum Kind {
     Strong,
@@ -31,7 +31,7 @@ pub enum Kind {
     Neutral,
 }
 
-// The last strong class, the direction of the last strong item or number, and the kind of the item before.
+/// The last strong class, the direction of the last strong item or number, and the kind of the item before.
 #[derive(Clone, Copy, PartialEq, Eq)]
 pub struct Left {
     pub strong: Strong,
@@ -39,7 +39,7 @@ pub struct Left {
     pub kind: Kind,
 }
 
-// What the next item is.
+/// What the next item is.
 #[derive(Clone, Copy, PartialEq, Eq)]
 pub enum Next {
     European,
@@ -47,7 +47,7 @@ pub enum Next {
     Other,
 }
 
-// The first strong item or number that follows; Arabic letters and numbers count as R.
+/// The first strong item or number that follows; Arabic letters and numbers count as R.
 #[derive(Clone, Copy, PartialEq, Eq)]
 pub enum First {
     L,
@@ -55,7 +55,7 @@ pub enum First {
     European,
 }
 
-// What follows the last item of a paragraph in this direction.
+/// What follows the last item of a paragraph in this direction.
 impl From<Side> for First {
     ghost from_gives = { λ side first. first ≡ first_of side };
 
@@ -67,7 +67,7 @@ impl From<Side> for First {
     }
 }
 
-// The next item, whether skipping terminators and marks leads to a European number, and the first strong item or number.
+/// The next item, whether skipping terminators and marks leads to a European number, and the first strong item or number.
 #[derive(Clone, Copy, PartialEq, Eq)]
 pub struct Right {
     pub next: Next,
@@ -75,7 +75,7 @@ pub struct Right {
     pub first: First,
 }
 
-// The direction of a European number after a strong class.
+/// The direction of a European number after a strong class.
 fn side_of_number(strong: Strong) -> Side
     ensures { result ≡ number_side strong }
 {
@@ -85,7 +85,7 @@ fn side_of_number(strong: Strong) -> Side
     }
 }
 
-// The kind of a European number after a strong class.
+/// The kind of a European number after a strong class.
 fn kind_of_number(strong: Strong) -> Kind
     ensures { result ≡ number_kind strong }
 {
@@ -95,7 +95,7 @@ fn kind_of_number(strong: Strong) -> Kind
     }
 }
 
-// The kind of a terminator after an item of this kind.
+/// The kind of a terminator after an item of this kind.
 fn terminated(kind: Kind) -> Kind
     ensures { result ≡ kind_terminated kind }
 {
@@ -106,7 +106,7 @@ fn terminated(kind: Kind) -> Kind
 }
 
 impl Left {
-    // The left context of a paragraph's first item.
+    /// The left context of a paragraph's first item.
     pub fn start(base: Side) -> Left
         ensures { result ≡ left_start base }
     {
@@ -117,7 +117,7 @@ impl Left {
         }
     }
 
-    // The left context after one item more.
+    /// The left context after one item more.
     pub fn after(self, class: Class) -> Left
         ensures { result ≡ left_after self class }
     {
@@ -164,7 +164,7 @@ impl Left {
 }
 
 impl Right {
-    // The right context of a paragraph's last item.
+    /// The right context of a paragraph's last item.
     pub fn end(base: Side) -> Right
         ensures { result ≡ right_end base }
     {
@@ -175,7 +175,7 @@ impl Right {
         }
     }
 
-    // The right context before one item more.
+    /// The right context before one item more.
     pub fn before(self, class: Class) -> Right
         ensures { result ≡ right_before class self }
     {
@@ -200,7 +200,7 @@ impl Right {
     }
 }
 
-// The class, after the rules, of a European number.
+/// The class, after the rules, of a European number.
 fn number(strong: Strong) -> Class
     ensures { result ≡ number_class strong }
 {
@@ -211,7 +211,7 @@ fn number(strong: Strong) -> Class
     }
 }
 
-// The class of an item that stays neutral up to N1: both sides' if they agree, else the base direction's.
+/// The class of an item that stays neutral up to N1: both sides' if they agree, else the base direction's.
 fn between(base: Side, left: Left, right: Right) -> Class
     ensures { result ≡ class_between base left right }
 {
@@ -224,7 +224,7 @@ fn between(base: Side, left: Left, right: Right) -> Class
     Class::from(side)
 }
 
-// The class of a terminator with no European number before it.
+/// The class of a terminator with no European number before it.
 fn loose(strong: Strong, leads: bool, neutral: Class) -> Class
     ensures { result ≡ loose_class strong leads neutral }
 {
@@ -235,7 +235,7 @@ fn loose(strong: Strong, leads: bool, neutral: Class) -> Class
     }
 }
 
-// The class of an item after the rules.
+/// The class of an item after the rules.
 fn settled(base: Side, left: Left, class: Class, right: Right) -> Class
     ensures { result ≡ settled_class base left class right }
 {
@@ -270,7 +270,7 @@ fn settled(base: Side, left: Left, class: Class, right: Right) -> Class
     }
 }
 
-// The level of an item by I1 and I2, from its class after the rules before them.
+/// The level of an item by I1 and I2, from its class after the rules before them.
 fn implicit_level(base: Side, class: Class) -> u8
     ensures { result ≡ I base class }
 {
@@ -281,7 +281,7 @@ fn implicit_level(base: Side, class: Class) -> u8
     }
 }
 
-// The level of an item with these contexts: the rules' level, in every paragraph in which it has them.
+/// The level of an item with these contexts: the rules' level, in every paragraph in which it has them.
 pub fn level(base: Side, left: Left, class: Class, right: Right) -> u8
     ensures is { result ≡ level_at base left class right }
     ensures rules { IsLevel base left class right result }

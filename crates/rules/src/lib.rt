@@ -1,4 +1,4 @@
-// The rules that give each item of a paragraph its level, and the contexts that give the same level from both sides.
+//! The rules that give each item of a paragraph its level, and the contexts that give the same level from both sides.
 
 #![tactic(auto)]
 

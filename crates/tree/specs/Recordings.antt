@@ -5,11 +5,11 @@ use Rattle.tree.specs.Plain.{Untouched}
 use Rattle.tree.specs.declared.history.Recording.{Recording}
 use Rattle.tree.specs.declared.history.Unrecorded.{Unrecorded}
 
--- the list that is too short for its answers, that of the changes first
+-- the first list that is too short for its answers, the one for the changes looked at first; `Ok` where both are long enough
 abbrev pub short_of : {C O Q A : Type 0} → Recording C O Q A → Result (Unit {0}) Unrecorded
 short_of r = short_list (length r.changes.now) (length r.outcomes.now) (length r.questions.now) (length r.answers.now)
 
--- the calls are the same, and the lists are those that were lent
+-- the calls are the same, and each list is still the one that was lent: two references with one `ghost_name` are one borrow
 abbrev pub SameRecording : {C O Q A : Type 0} → Recording C O Q A → Recording C O Q A → Type 0
 SameRecording old new =
     (new.changes ≡ old.changes) × (new.questions ≡ old.questions)

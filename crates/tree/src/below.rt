@@ -24,7 +24,7 @@ pub(crate) fn write_row<E: Copy, T: Copy>(rows: &mut [Row<E, T>], i: u16, row: R
     rows[i as usize] = row;
 }
 
-// Kept: the rows and a link apart, here and wherever a link is followed: a struct of both would be made anew for each of a row's two links, and a place's bound, the size, could not be told from it.
+// Kept: the rows and a link apart, here and wherever a link is followed; as methods of a struct of both with a ghost shape each walk would be `self.left().read(place)`, a struct made and its fact shown anew at each row.
 /// What a row needs to know of the part below a link.
 pub(crate) fn part_of<E: Copy, T: Measure<E>>(rows: &[Row<E, T>], link: Option<u16>) -> Part<T>
     requires { ∥ ((s : Shape E T) × Under rows.now link s × Unit {0}) ∥₁ }

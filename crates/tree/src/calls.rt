@@ -31,7 +31,7 @@ impl<'a, E: Copy, T: Measure<E>> Tree<'a, E, T> {
         }
     }
 
-    // Kept: each call that changes the tree says that its capacity stays, since a type holds what is true at one moment and not what two have in common.
+    // Kept: each call that changes a tree, here and in the crates above, says that the capacity stays: a type holds what is true at one moment and not what two have in common.
     /// Drops every element; the rows can all be used again.
     pub fn clear(&mut self)
         ensures elements { elements_of self.new ≡ [] }
@@ -69,7 +69,7 @@ impl<'a, E: Copy, T: Measure<E>> Tree<'a, E, T> {
         if count >= self.capacity() {
             return Err(Fault::Full);
         }
-        // Kept: `as u16` here and below, since the place was tested; `u16::try_from` would bring an error that cannot come.
+        // Kept: `as u16` wherever a tested place goes into a row: the check proves that it loses nothing, and `u16::try_from` would bring an error that cannot come.
         self.heads = insert_in(self.rows, self.heads, place as u16, element);
         Ok(())
     }

@@ -20,6 +20,7 @@ pub enum Unrecorded {
     Answers,
 }
 
+// Kept: calls and answers in lists of their own, since callers lend both, and one list of calls can be run more than once.
 /// Calls to be carried out, the changes before the questions, and the lists to which the answer to each is written.
 #[derive(Drop)]
 pub struct Recording<'c, 'a, C, O, Q, A> {
@@ -105,24 +106,26 @@ impl<E: Copy, T: Measure<E>> Tree<'_, E, T> {
         Ok(())
     }
 
+    /// Carries out changes, one after the other, and writes what each was answered.
     fn change_all(&mut self, changes: &[Change<E>], outcomes: &mut [Result<Option<E>, Fault>])
         requires { length changes.now ≤ length outcomes.old }
         ensures elements { elements_of self.new ≡ after_all (capacity_of self.old) (elements_of self.old) changes.now }
         ensures answered { map numbered (take (length changes.now) outcomes.new) ≡ answers_all (capacity_of self.old) (elements_of self.old) changes.now }
         ensures spare { drop (length changes.now) outcomes.new ≡ drop (length changes.now) outcomes.old }
     {
-        // Kept: by index, since of what a loop over `outcomes.iter_mut().zip(changes)` wrote nothing is known behind it.
+        // Kept: tried over `outcomes.iter_mut().zip(changes)`; what the slots hold after the loop stayed open.
         for (i, change) in changes.iter().enumerate() {
             outcomes[i] = self.change(*change);
         }
     }
 
+    /// Answers questions, one after the other, and writes what each was told.
     fn ask_all(&self, questions: &[Question], answers: &mut [Result<Told<E, T>, Fault>])
         requires { length questions.now ≤ length answers.old }
         ensures told { map numbered (take (length questions.now) answers.new) ≡ map (question_answer T.ops (elements_of self.now) (depth_in self.now)) questions.now }
         ensures spare { drop (length questions.now) answers.new ≡ drop (length questions.now) answers.old }
     {
-        // Kept: by index, for the same reason.
+        // Kept: tried over `answers.iter_mut().zip(questions)`; what the slots hold after the loop stayed open.
         for (i, question) in questions.iter().enumerate() {
             answers[i] = self.ask(*question);
         }

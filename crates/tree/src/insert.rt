@@ -9,6 +9,7 @@ use crate::below::{part_of, row_at};
 use crate::measure::Measure;
 use crate::row::Row;
 
+/// Puts a fresh row with an element before a place below the link, and answers the row on top.
 pub(crate) fn insert_below<E: Copy, T: Measure<E>>(
     rows: &mut [Row<E, T>],
     link: Option<u16>,

@@ -38,7 +38,7 @@ pub(crate) fn take_row<E: Copy, T: Copy>(rows: &[Row<E, T>], free: Option<u16>, 
     }
 }
 
-// Kept: the rows and the heads apart, here and in the two functions below, since between the first write and the last no tree stands in them.
+// Kept: apart from the tree's calls, here and below, over its rows and heads: these say what becomes of the rows, and the calls of what list that is; as one, each proof would be both.
 /// Puts an element before a place.
 pub(crate) fn insert_in<E: Copy, T: Measure<E>>(
     rows: &mut [Row<E, T>],

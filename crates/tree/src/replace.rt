@@ -93,7 +93,7 @@ impl<E: Copy, T: Measure<E>> Tree<'_, E, T> {
         }
     }
 
-    // Kept: beside `set_all`: one loop over both would take the call as a closure that changes the tree, of which only its steps are known.
+    // Kept: with `set_all` as one, `self.each(place, elements, |tree, at, element| tree.insert(at, element))`, a proof would know each call and not what all of them leave.
     /// Puts elements before a place.
     fn insert_all(&mut self, place: usize, elements: &[E])
         requires within { place ≤ length (elements_of self.old) }

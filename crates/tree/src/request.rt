@@ -1,5 +1,6 @@
 //! Calls on a tree as values, so that a list of them can be recorded and run.
 
+// Kept: calls as values and no closures, here and below, since the law speaks of each recorded call.
 /// A call that changes a tree.
 #[derive(Clone, Copy)]
 pub enum Change<E> {

@@ -4,7 +4,7 @@ ghost use Rattle.std.specs.Prelude.{◌≡◌, None};
 
 use crate::measure::Measure;
 
-// Kept: links are places in the table that a caller lends, and no boxes, since the tree may use no heap.
+// Kept: links are places in the rows that a caller lends, and `Heads` counts the used ones: the tree may use no heap, so no `Box` and no `Vec`.
 /// One row: an element, the rows below it on either side, and the height, count and total of its part.
 #[derive(Clone, Copy)]
 pub struct Row<E, T> {

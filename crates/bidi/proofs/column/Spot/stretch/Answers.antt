@@ -9,5 +9,5 @@ returns c =
     let p : ℕ = c.args.self.now.place in
     let k : ℕ = c.args.k in
     let n : c.high_before.result ≡ suffix_len (λ l. leb k l) (take p levels) = c.high_before.ensures.is ∙ ap (suffix_len (λ l. leb k l)) c.split_at.ensures.front in
-    let m : c.high_on.result ≡ prefix_len (λ l. leb k l) (drop p levels) = c.high_on.ensures.is ∙ ap (prefix_len (λ l. leb k l)) c.split_at.ensures.back in
-    stretch_around levels k p (omega arith) c.high_before.result c.high_on.result c.requires n m
+    let m : c.high_from.result ≡ prefix_len (λ l. leb k l) (drop p levels) = c.high_from.ensures.is ∙ ap (prefix_len (λ l. leb k l)) c.split_at.ensures.back in
+    stretch_around levels k p (omega arith) c.high_before.result c.high_from.result c.requires n m
