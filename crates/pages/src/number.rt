@@ -10,6 +10,7 @@ fn digits(bytes: &[u8]) -> Option<u32>
     requires { length bytes.now ≤ 9 }
     ensures { result ≡ read_on 0 bytes.now }
 {
+    // Kept: not `parse`, which takes a `str`, and a leading `+`.
     let mut n: u32 = 0;
     for b in bytes {
         if !b.is_ascii_digit() {
@@ -37,8 +38,5 @@ pub(crate) fn number(field: &[u8]) -> Result<u32, Refusal>
 pub(crate) fn small(field: &[u8]) -> Result<u16, Refusal>
     ensures { result ≡ small_in field.now }
 {
-    let Ok(n) = u16::try_from(number(field)?) else {
-        return Err(Refusal::Number);
-    };
-    Ok(n)
+    u16::try_from(number(field)?).map_err(|_| Refusal::Number)
 }

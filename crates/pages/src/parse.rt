@@ -81,6 +81,7 @@ pub(crate) fn parse(line: &[u8]) -> Result<Call, Refusal>
     ensures { result ≡ call_in line.now }
 {
     let (word, rest) = cut(line, TAB);
+    // Kept: tried as `match word { b"put" => put(rest), .. }`; at `_` that the word is none of the three stayed open.
     if word == b"put".as_slice() {
         put(rest)
     } else if word == b"take".as_slice() {

@@ -46,7 +46,7 @@ pub(crate) fn run(heap: Global, page: &mut Page<'_, '_>, text: &[u8]) -> Result<
     let mut rest = text;
     let mut done: usize = 0;
     let mut refused: usize = 0;
-    // Kept: line by line, since `text.split(..)` would tell one line more behind a closing line feed, where none begins.
+    // Kept: tried over `text.split_inclusive(|b| *b == LINE_FEED)`; that its pieces are the lines stayed open.
     while !rest.is_empty() {
         let (line, behind) = next_line(rest);
         let outcome = step(page, line);
@@ -68,6 +68,7 @@ pub fn respond(heap: Global, input: &[u8]) -> Result<String, AllocError>
     ensures { IfOk result (λ s. string_bytes s ≡ output input.now) }
 {
     if input.len() > LIMIT {
+        // Kept: as text, since as a case of `Refusal` it would be one that no line can get.
         return String::from_str(heap, "!\t0\t28\n");
     }
     let mut rows = [Row::new(BLANK); 256];
