@@ -21,7 +21,7 @@ fn picked(recorded: &[Item], first: usize, end: usize) -> &[Item]
 }
 
 /// Carries out a recorded change.
-fn change(
+fn carry_out(
     paragraph: &mut Paragraph<'_, '_>,
     recorded: &[Item],
     change: Change,
@@ -41,7 +41,7 @@ fn change(
     }
 }
 
-// Kept: beside the tree's, here and for questions: one function over both would take the call as a closure that changes what it is made on, of which only its steps are known.
+// Kept: a loop beside the tree's, here and for questions: one function for both would be public, take the call as a closure and require that it can be called, and public functions require nothing.
 /// Carries out recorded changes, one after the other, and writes what each was answered.
 pub(crate) fn change_all(
     paragraph: &mut Paragraph<'_, '_>,
@@ -55,7 +55,7 @@ pub(crate) fn change_all(
     ensures spare { drop (length changes.now) outcomes.new ≡ drop (length changes.now) outcomes.old }
 {
     // Kept: tried over `outcomes.iter_mut().zip(changes)`; what the slots hold after the loop stayed open.
-    for (i, next) in changes.iter().enumerate() {
-        outcomes[i] = change(paragraph, recorded, *next);
+    for (i, change) in changes.iter().enumerate() {
+        outcomes[i] = carry_out(paragraph, recorded, *change);
     }
 }

@@ -34,7 +34,5 @@ pub fn history<E: Copy, T: Measure<E>>(
 {
     calls.fits()?;
     tree.history(tree_calls)?;
-    // its lists are long enough, so this one does not refuse
-    let _ = paragraph_history(paragraph, direction, recorded, calls);
-    Ok(())
+    paragraph_history(paragraph, direction, recorded, calls)
 }

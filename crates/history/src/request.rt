@@ -5,6 +5,7 @@ use paragraph::outcome::Outcome;
 use rules::Direction;
 use tree::history::Recording;
 
+// Kept: calls as values and no closures, here and below, since the law speaks of each recorded call.
 /// A call that changes a paragraph.
 #[derive(Clone, Copy)]
 pub enum Change {

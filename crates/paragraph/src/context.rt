@@ -25,6 +25,7 @@ impl Paragraph<'_, '_> {
         self.tree.len()
     }
 
+    // Kept: a stretch's two places apart, here and below; as `self.part(0, place).after(left)` each call would still have to show both facts, where the part is made.
     /// The total of a stretch.
     fn total(&self, first: usize, end: usize) -> Total
         requires ordered { first ≤ end }
@@ -57,7 +58,7 @@ impl Paragraph<'_, '_> {
     pub(crate) fn base(&self) -> Side
         ensures { result ≡ base_in self.now }
     {
-        self.contexts(0, self.tree.len()).base(self.direction)
+        self.contexts(0, self.count()).base(self.direction)
     }
 
     /// The left context that the items of a stretch make of the one before them.
@@ -91,7 +92,7 @@ impl Paragraph<'_, '_> {
         requires { place ≤ length (items_of self.now) }
         ensures { result ≡ right_along (right_end base) (drop place (classes (items_of self.now))) }
     {
-        self.right_before(Right::end(base), place, self.tree.len())
+        self.right_before(Right::end(base), place, self.count())
     }
 
     /// The class of the item at a place, between its contexts.
@@ -142,7 +143,7 @@ impl Paragraph<'_, '_> {
         requires within { end ≤ length (items_of self.now) }
         ensures { result ≡ edges_of base (classes (items_of self.now)) first end }
     {
-        if first < self.tree.len() && end - first <= 1 {
+        if first < self.count() && end - first <= 1 {
             return self.near_edges(base, first, end);
         }
         Edges {

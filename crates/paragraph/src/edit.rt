@@ -101,7 +101,7 @@ impl<'t, 'a> Paragraph<'t, 'a> {
         ensures refused { Untouched result self.old self.new }
         ensures outcome { IfOk result (OutcomeOf self.old self.new place removed (length items.now)) }
     {
-        let count = self.tree.len();
+        let count = self.count();
         if place > count {
             return Err(ParagraphFault::Place);
         }

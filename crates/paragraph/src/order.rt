@@ -31,7 +31,7 @@ impl Paragraph<'_, '_> {
         ensures list { list.new ≡ ordered (levels_in self.now) list.old scratch.old }
         ensures scratch { scratch.new ≡ levelled (levels_in self.now) list.old scratch.old }
     {
-        let count = self.tree.len();
+        let count = self.count();
         if count > list.len() {
             return Err(ParagraphFault::List);
         }
@@ -39,7 +39,7 @@ impl Paragraph<'_, '_> {
             return Err(ParagraphFault::Scratch);
         }
         self.levels().write_levels(scratch);
-        let _ = order(&scratch[0..count], list);
+        order(&scratch[..count], list).unwrap();
         Ok(())
     }
 }

@@ -26,7 +26,7 @@ impl Paragraph<'_, '_> {
     pub fn run(&self, place: usize) -> Result<Run, ParagraphFault>
         ensures { RunAnswer (levels_in self.now) place result }
     {
-        if place >= self.tree.len() {
+        if place >= self.count() {
             return Err(ParagraphFault::Place);
         }
         let levels = self.levels();

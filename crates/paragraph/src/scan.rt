@@ -62,6 +62,7 @@ impl Change<'_, '_, '_> {
     fn last_changed(&self) -> Option<usize>
         ensures { LastOf (IsChanged self.now) result }
     {
+        // Kept: tried as `(0..self.paragraph.count()).rfind(|i| self.changed_at(*i))`; that no later place changed stayed open.
         for i in (0..self.paragraph.count()).rev() {
             if self.changed_at(i) {
                 return Some(i);

@@ -44,11 +44,7 @@ impl Span {
     pub(crate) fn stretch(first: usize, end: usize) -> Option<Span>
         ensures { SpanOf (λ i. (first ≤ i) × (i < end)) result }
     {
-        if first < end {
-            Some(Span { first, end })
-        } else {
-            None
-        }
+        (first < end).then_some(Span { first, end })
     }
 }
 
@@ -56,12 +52,13 @@ impl Span {
 pub(crate) fn hull(a: Option<Span>, b: Option<Span>) -> Option<Span>
     ensures { result ≡ hull_of a b }
 {
-    let Some(s) = a else { return b };
-    let Some(t) = b else { return a };
-    Some(Span {
-        first: s.first.min(t.first),
-        end: s.end.max(t.end),
-    })
+    match (a, b) {
+        (Some(s), Some(t)) => Some(Span {
+            first: s.first.min(t.first),
+            end: s.end.max(t.end),
+        }),
+        _ => a.or(b),
+    }
 }
 
 /// A change has one span.

@@ -14,27 +14,27 @@ use Rattle.paragraph.proofs.paragraph.Paragraph.edit.Goals as goal
 pub returns-then-place-count : goal.returns-then-place-count
 returns-then-place-count c =
     let p = c.args.self.now in
-    let n = c.len-count.ensures.count in
+    let n = c.count-count.ensures in
     let a = edit_no_place (room_of p) (items_of p) c.args.place c.args.removed c.args.items.now (omega arith) in
     record { told = told_refused (room_of p) (plain_of p) c.args.place c.args.removed c.args.items.now _ a.0; answer = a.0; items = a.1; direction = refl; room = refl; refused = same_paragraph _ _ refl refl; outcome = tt }
 
 pub returns-then-removed-count : goal.returns-then-removed-count
 returns-then-removed-count c =
     let p = c.args.self.now in
-    let n = c.len-count.ensures.count in
+    let n = c.count-count.ensures in
     let a = edit_no_removed (room_of p) (items_of p) c.args.place c.args.removed c.args.items.now (omega arith) (omega arith) in
     record { told = told_refused (room_of p) (plain_of p) c.args.place c.args.removed c.args.items.now _ a.0; answer = a.0; items = a.1; direction = refl; room = refl; refused = same_paragraph _ _ refl refl; outcome = tt }
 
 pub returns-in_err-narrow_all : goal.returns-in_err-narrow_all
 returns-in_err-narrow_all c =
     let p = c.args.self.now in
-    let n = c.len-count.ensures.count in
+    let n = c.count-count.ensures in
     let r = err_from_is_err_and c.from_residual.result c.from_residual.ensures.1 in
     let a = edit_wide (room_of p) (items_of p) c.args.place c.args.removed c.args.items.now (omega arith) (omega arith) _ c.in_err-narrow_all.ensures in
     rw (r.1, r.2) (record { told = told_refused (room_of p) (plain_of p) c.args.place c.args.removed c.args.items.now _ a.0; answer = a.0; items = a.1; direction = refl; room = refl; refused = same_paragraph _ _ refl refl; outcome = tt })
 
-pub invariant_of-self-2 : goal.invariant_of-self-2
-invariant_of-self-2 c = record {
+pub invariant_of-self : goal.invariant_of-self
+invariant_of-self c = record {
   few = subst (λ xs. length xs ≤ 4096) (sym c.replace.ensures.elements) (few_after _ _ _ _ _ c.args.self.now.few);
 }
 
@@ -46,7 +46,7 @@ returns-in_err-replace c =
     let place = c.args.place in
     let removed = c.args.removed in
     let h = c.in_err-replace.ensures in
-    let n = c.len-count.ensures.count in
+    let n = c.count-count.ensures in
     let r = err_from_is_err_and c.from_residual-in_err-replace.result c.from_residual-in_err-replace.ensures.1 in
     let full = replace_refused (room_of p) items new place (place + removed) (omega arith) (omega arith) _ h.answer in
     let many = full.1 in
@@ -68,7 +68,7 @@ outcome-requires c =
     let new = c.args.items.now in
     let place = c.args.place in
     let removed = c.args.removed in
-    let n = c.len-count.ensures.count in
+    let n = c.count-count.ensures in
     let h = c.in_ok-replace.ensures in
     let done = replace_accepted (room_of c.args.self.now) items new place (place + removed) (omega arith) (omega arith) h.answer in
     let l = ap length (h.elements ∙ done.1) ∙ length-spliced items new place (place + removed) (omega arith) (omega arith) in
@@ -81,7 +81,7 @@ returns c =
     let new = c.args.items.now in
     let place = c.args.place in
     let removed = c.args.removed in
-    let n = c.len-count.ensures.count in
+    let n = c.count-count.ensures in
     let h = c.in_ok-replace.ensures in
     let done = replace_accepted (room_of p) items new place (place + removed) (omega arith) (omega arith) h.answer in
     let fits = done.0 in

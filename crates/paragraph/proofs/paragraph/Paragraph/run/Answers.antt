@@ -5,11 +5,11 @@ use Rattle.paragraph.proofs.Around.{run_around}
 use Rattle.paragraph.proofs.Levels.{length-levels}
 use Rattle.paragraph.proofs.paragraph.Paragraph.run.Goals as goal
 
-pub returns-then-place-len : goal.returns-then-place-len
-returns-then-place-len c =
+pub returns-then-place-count : goal.returns-then-place-count
+returns-then-place-count c =
     let p = c.args.self.now in
     let n = length-levels p.direction (items_of p) in
-    let all = c.len.ensures.count in
+    let all = c.count.ensures in
     (refl, omega arith)
 
 pub returns : goal.returns
@@ -18,7 +18,7 @@ returns c =
     let place = c.args.place in
     let level = c.at-level.result in
     let n = length-levels p.direction (items_of p) in
-    let all = c.len.ensures.count in
+    let all = c.count.ensures in
     let same = ap (λ q. length (items_of q)) c.levels-levels.ensures in
     let here = c.at-level.ensures in
     subst (λ q. RunOf (levels_in q) place (record { first = c.stretch-first.result.first; end = c.stretch-first.result.end; level = level })) c.levels-levels.ensures
