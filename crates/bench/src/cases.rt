@@ -20,14 +20,16 @@ fn sum_of<F: FnMut(usize) -> usize>(calls: usize, mut call: F) -> usize
     sum
 }
 
-/// The places of the span that a call was answered, added up.
-fn told(answer: Result<Outcome, ParagraphFault>) -> usize {
-    let Ok(outcome) = answer else {
-        return 0;
-    };
+/// The places of the span of a change, added up.
+fn places(outcome: Outcome) -> usize {
     outcome
         .span
         .map_or(0, |span| span.first.wrapping_add(span.end))
+}
+
+/// The same of an edit, which may be refused.
+fn told(answer: Result<Outcome, ParagraphFault>) -> usize {
+    answer.map_or(0, places)
 }
 
 /// Puts one item of the text in the place of so many.
@@ -81,7 +83,7 @@ pub(crate) fn turn_each(paragraph: &mut Paragraph<'_, '_>, calls: usize) -> usiz
         } else {
             Direction::Left
         };
-        told(Ok(paragraph.turn(direction)))
+        places(paragraph.turn(direction))
     })
 }
 

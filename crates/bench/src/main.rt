@@ -23,9 +23,10 @@ use tree::pair::Pair;
 use tree::row::Row;
 use tree::tree::Tree;
 
-/// How many corrections, and how many whole paragraphs, are timed in one go.
+/// How many corrections are timed in one go.
 const CORRECTIONS: usize = 512;
 
+/// The same of whole paragraphs.
 const WHOLES: usize = 16;
 
 /// Fills the rows of a new tree.

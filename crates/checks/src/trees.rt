@@ -17,6 +17,7 @@ fn item(width: u8) -> Item {
     }
 }
 
+// Kept: the tests see the numbers that clients are told.
 /// The number of a refusal, or 0.
 fn refusal<A: Copy>(answer: Result<A, Fault>) -> u8 {
     answer.map_or_else(|fault| fault.number(), |_| 0)
@@ -26,7 +27,7 @@ fn refusal<A: Copy>(answer: Result<A, Fault>) -> u8 {
 fn capacity_four_takes_four(rt: HostRuntime) {
     let mut rows: [Row<Item, Columns>; 4] = [Row::new(item(0)); 4];
     let mut tree = Tree::open(&mut rows);
-    for _n in 0..4 {
+    for _ in 0..4 {
         assert_eq!(rt; refusal(tree.insert(0, item(1))), 0);
     }
     assert_eq!(rt; refusal(tree.insert(0, item(1))), 2);
@@ -51,7 +52,7 @@ fn four_thousand_ascending_then_from_the_middle(rt: HostRuntime) -> Result<(), F
         return Err(Fail::new("the total of all"));
     };
     assert_eq!(rt; total.width, 4095);
-    for _n in 0..4096usize {
+    for _ in 0..4096usize {
         let middle = tree.len() / 2;
         let Ok(told) = tree.read(middle) else {
             return Err(Fail::new("the middle is there"));

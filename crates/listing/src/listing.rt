@@ -24,8 +24,8 @@ fn add_columns(text: &mut String, levels: &[u8], items: &[Item]) -> Result<(), A
 {
     // Kept: by place, since a column is asked for by its place.
     for place in 0..items.len() {
-        let column = column(levels, items, place).unwrap();
-        write!(text, " {column}")?;
+        let start = column(levels, items, place).unwrap();
+        write!(text, " {start}")?;
     }
     Ok(())
 }

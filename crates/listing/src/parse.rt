@@ -15,7 +15,7 @@ pub struct Paragraph {
     pub items: Vec<Item>,
 }
 
-// Kept: not `TryFrom<u8>`, here and for the class, since that impl would stand with the type in `rules`, which knows no letters.
+// Kept: `impl TryFrom<u8> for Direction` may stand only in `rules`, which knows no letters of a text; so for the class.
 /// The direction of a letter.
 fn direction_of(letter: u8) -> Option<Direction>
     ensures { result ≡ direction_read letter }

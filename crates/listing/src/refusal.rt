@@ -49,6 +49,7 @@ impl<T: Drop> From<AllocFailed<T>> for Refusal {
     }
 }
 
+// Kept: public, so callers may convert by it.
 impl From<fmt::Error> for Refusal {
     ghost from_gives = { λ _ r. r ≡ Memory };
 

@@ -14,9 +14,9 @@ loop-place-preserved c =
     let p : ℕ = c.loop-place.place in
     let lt : p < length items = omega arith in
     let told : c.column.result ≡ Ok (held (column_of levels (widths items) p)) = c.column.ensures ∙ answered levels items p c.requires.0 c.requires.1 lt in
-    let found : c.column.result ≡ Ok c.unwrap-column.result = c.unwrap-column.ensures in
-    let same : c.unwrap-column.result ≡ held (column_of levels (widths items) p) = cc in
-    let wrote : string_bytes c.write.new.self ≡ string_bytes c.loop-place.text ++ (32 ∷ decimal c.unwrap-column.result) = search rules in
+    let found : c.column.result ≡ Ok c.unwrap-start.result = c.unwrap-start.ensures in
+    let same : c.unwrap-start.result ≡ held (column_of levels (widths items) p) = cc in
+    let wrote : string_bytes c.write.new.self ≡ string_bytes c.loop-place.text ++ (32 ∷ decimal c.unwrap-start.result) = search rules in
     spaced_more decimal (string_bytes c.args.text.now) (columns_from levels items) (string_bytes c.loop-place.text) (string_bytes c.write.new.self) p 0
     (omega (arith, length-columns levels items))
     (wrote ∙ ap (λ n. string_bytes c.loop-place.text ++ (32 ∷ decimal n)) (same ∙ sym (column_at levels items p lt)))
