@@ -94,6 +94,7 @@ impl Spot<'_> {
     }
 }
 
+// Kept: levels and items as two slices, since callers have them so, from `resolve`, and lend both.
 /// The column of the item at a place, held at 4,294,967,295, where `levels` begins with the levels of the items.
 pub fn column(levels: &[u8], items: &[Item], place: usize) -> Result<u32, Fault>
     ensures { result ≡ column_answer levels.now items.now place }
