@@ -48,11 +48,6 @@ pub few_after : {E T : Type 0} {g : Ghosts T E} (t : Tree E T g) (xs ys : List E
 unfolding capacity_of
 few_after t xs ys first end h = few_replace xs ys first end (capacity_of t) (omega arith) h
 
--- a refusal for a width comes before any other answer
-refused_wide : (o : Option ℕ) (r : Refusal) (later : Result (Unit {0}) Refusal) → Err r ≡ unless_wide o (Ok tt) → Err r ≡ unless_wide o later
-refused_wide None r later e = let z : ◌≡◌ {A = ℕ} 0 1 = cc in absurd (omega arith)
-refused_wide (Some p) r later e = e
-
 -- where no item is too wide the later answer counts
 not_wide : (o : Option ℕ) (later : Result (Unit {0}) Refusal) → Ok tt ≡ unless_wide o (Ok tt) → unless_wide o later ≡ later
 not_wide None later e = refl
@@ -81,22 +76,13 @@ module _ (room : ℕ) (xs : List Item) (place removed : ℕ) (new : List Item) w
   kept : (r : Refusal) → Err r ≡ edit_answer room xs place removed new → xs ≡ after_edit room xs place removed new
   kept r e = ap (λ q. accepted q (spliced xs place (place + removed) new) xs) e
 
-  pub edit_no_place : length xs < place → (Err (plain 11) ≡ edit_answer room xs place removed new) × (xs ≡ after_edit room xs place removed new)
-  edit_no_place h = let a = sym (cond-true (ltb (length xs) place) (Err (plain 11)) _ (lt-ltb (length xs) place h)) in (a, kept (plain 11) a)
-
   module _ (h : place ≤ length xs) where
     past_place : edit_answer room xs place removed new ≡ cond (ltb (length xs - place) removed) (Err (plain 12)) (unless_wide (first_wide new) (cond (ltb room (length xs - removed + length new)) (Err (plain 2)) (Ok tt)))
     past_place = cond-false (ltb (length xs) place) (Err (plain 11)) _ (le-ltb (length xs) place h)
 
-    pub edit_no_removed : length xs - place < removed → (Err (plain 12) ≡ edit_answer room xs place removed new) × (xs ≡ after_edit room xs place removed new)
-    edit_no_removed k = let a = sym (past_place ∙ cond-true (ltb (length xs - place) removed) (Err (plain 12)) _ (lt-ltb (length xs - place) removed k)) in (a, kept (plain 12) a)
-
     module _ (k : removed ≤ length xs - place) where
       past_removed : edit_answer room xs place removed new ≡ unless_wide (first_wide new) (cond (ltb room (length xs - removed + length new)) (Err (plain 2)) (Ok tt))
       past_removed = past_place ∙ cond-false (ltb (length xs - place) removed) (Err (plain 12)) _ (le-ltb (length xs - place) removed k)
-
-      pub edit_wide : (r : Refusal) → Err r ≡ unless_wide (first_wide new) (Ok tt) → (Err r ≡ edit_answer room xs place removed new) × (xs ≡ after_edit room xs place removed new)
-      edit_wide r e = let a = refused_wide (first_wide new) r _ e ∙ sym past_removed in (a, kept r a)
 
       module _ (narrow : Ok tt ≡ unless_wide (first_wide new) (Ok tt)) where
         past_width : edit_answer room xs place removed new ≡ cond (ltb room (length xs - removed + length new)) (Err (plain 2)) (Ok tt)

@@ -6,32 +6,10 @@ use Rattle.bidi.specs.Items.{classes}
 use Rattle.paragraph.specs.Edges.{edges}
 use Rattle.paragraph.specs.Faults.{plain}
 use Rattle.paragraph.specs.Paragraphs.{items_of, room_of, plain_of}
-use Rattle.paragraph.proofs.Edits.{same_paragraph, few_after, length-spliced, replace_refused, replace_accepted, edit_no_place, edit_no_removed, edit_wide, edit_full, edit_done}
+use Rattle.paragraph.proofs.Edits.{same_paragraph, few_after, length-spliced, replace_refused, replace_accepted, edit_full, edit_done}
 use Rattle.paragraph.proofs.Levels.{span_of_change}
 use Rattle.paragraph.proofs.Telling.{outcome_told, told_refused, told_done}
 use Rattle.paragraph.proofs.paragraph.Paragraph.edit.Goals as goal
-
-pub returns-then-place-count : goal.returns-then-place-count
-returns-then-place-count c =
-    let p = c.args.self.now in
-    let n = c.count-count.ensures in
-    let a = edit_no_place (room_of p) (items_of p) c.args.place c.args.removed c.args.items.now (omega arith) in
-    record { told = told_refused (room_of p) (plain_of p) c.args.place c.args.removed c.args.items.now _ a.0; answer = a.0; items = a.1; direction = refl; room = refl; refused = same_paragraph _ _ refl refl; outcome = tt }
-
-pub returns-then-removed-count : goal.returns-then-removed-count
-returns-then-removed-count c =
-    let p = c.args.self.now in
-    let n = c.count-count.ensures in
-    let a = edit_no_removed (room_of p) (items_of p) c.args.place c.args.removed c.args.items.now (omega arith) (omega arith) in
-    record { told = told_refused (room_of p) (plain_of p) c.args.place c.args.removed c.args.items.now _ a.0; answer = a.0; items = a.1; direction = refl; room = refl; refused = same_paragraph _ _ refl refl; outcome = tt }
-
-pub returns-in_err-narrow_all : goal.returns-in_err-narrow_all
-returns-in_err-narrow_all c =
-    let p = c.args.self.now in
-    let n = c.count-count.ensures in
-    let r = err_from_is_err_and c.from_residual.result c.from_residual.ensures.1 in
-    let a = edit_wide (room_of p) (items_of p) c.args.place c.args.removed c.args.items.now (omega arith) (omega arith) _ c.in_err-narrow_all.ensures in
-    rw (r.1, r.2) (record { told = told_refused (room_of p) (plain_of p) c.args.place c.args.removed c.args.items.now _ a.0; answer = a.0; items = a.1; direction = refl; room = refl; refused = same_paragraph _ _ refl refl; outcome = tt })
 
 pub invariant_of-self : goal.invariant_of-self
 invariant_of-self c = record {
@@ -61,18 +39,6 @@ returns-in_err-replace c =
       refused = same_paragraph _ _ (ap (λ t. re_v t p.tree) h.refused) refl;
       outcome = tt;
     })
-
-pub outcome-requires : goal.outcome-requires
-outcome-requires c =
-    let items = items_of c.args.self.now in
-    let new = c.args.items.now in
-    let place = c.args.place in
-    let removed = c.args.removed in
-    let n = c.count-count.ensures in
-    let h = c.in_ok-replace.ensures in
-    let done = replace_accepted (room_of c.args.self.now) items new place (place + removed) (omega arith) (omega arith) h.answer in
-    let l = ap length (h.elements ∙ done.1) ∙ length-spliced items new place (place + removed) (omega arith) (omega arith) in
-    omega arith
 
 pub returns : goal.returns
 returns c =
