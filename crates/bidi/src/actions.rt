@@ -53,7 +53,7 @@ pub(crate) struct RightAction {
     pub(crate) first: Option<First>,
 }
 
-// Kept: numbers, read here and in the five functions below, since joins of enums took longer, as said at `Contexts`.
+// Kept: numbers, read here and in the five functions below, since a part holds them, as said at `Contexts`.
 /// The first strong class that a number tells; 0 tells none.
 pub(crate) fn strong_at(n: u8) -> Option<Strong>
     ensures { result ≡ strong_in n }

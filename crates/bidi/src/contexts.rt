@@ -10,7 +10,7 @@ use rules::{Direction, Left, Right, Side};
 ///
 /// `left` says which left context leaves the part for each that enters it, and `right` the same from the right.
 /// Each has a field of two bits, another of two bits, and the rest. `strong` is the part's first strong class.
-// Kept: tried with enums joined by `match`; a correction took 28 percent longer, so that one to 64 items was 1.4 times as fast as ICU's where 1.5 is the bar, and a row took 32 bytes for 28.
+// Kept: numbers, since the fields are public and take any byte, so enums would ask more of whoever makes a part; joined by `match` they also took longer, a replaced item by 28 percent.
 #[derive(Clone, Copy)]
 pub struct Contexts {
     pub left: u8,

@@ -15,7 +15,7 @@ ghost use Rattle.bidi.specs.Joins.{
 
 use rules::Class;
 
-// Kept: numbers for what an item does, here and below, as at `Contexts`.
+// Kept: numbers for what an item does, here and below, since a part holds them, as said at `Contexts`.
 /// The action of one item on left contexts: its strong class, 4 times its side, 16 times its kind.
 pub(crate) fn left_number(class: Class) -> u8
     ensures { result ≡ left_of class }
