@@ -22,6 +22,7 @@ fn width_of(items: &[Item]) -> u32
     )
 }
 
+// Kept: beside `high_from`, its mirror image: as one it would take the iterator, turned round or not, from its caller.
 /// How many levels before the end are k or above, back to the first that is lower.
 fn high_before(levels: &[u8], k: u8) -> usize
     ensures is { result ≡ suffix_len (λ l. nat_le k l) levels.now }

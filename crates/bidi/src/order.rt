@@ -24,6 +24,7 @@ fn run_len(levels: &[u8], list: &[usize], k: u8) -> usize
         .count()
 }
 
+// Kept: levels, list and level apart, since the list is lent on to be written at each run.
 /// Reverses the unbroken sequence at level k or above that begins at i, and answers where it ends.
 fn turn_run(levels: &[u8], list: &mut [usize], i: usize, k: u8) -> usize
     requires { i ≤ length list.old }

@@ -9,6 +9,7 @@ use tree::history::Recording;
 /// A call that changes a paragraph.
 #[derive(Clone, Copy)]
 pub enum Change {
+    // Kept: items by a stretch of the recorded ones: as a slice of its own each change would hold a reference, and the law's definitions would read behind it.
     /// Replace items from a place on by those of the recorded items from `first` up to and without `end`.
     Edit {
         place: usize,

@@ -49,7 +49,7 @@ impl<T: Drop> From<AllocFailed<T>> for Refusal {
     }
 }
 
-// Kept: public, so callers may convert by it.
+// Kept: nothing here converts by it, but it is public, and callers may.
 impl From<fmt::Error> for Refusal {
     ghost from_gives = { λ _ r. r ≡ Memory };
 

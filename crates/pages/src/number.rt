@@ -10,7 +10,7 @@ fn digits(bytes: &[u8]) -> Option<u32>
     requires { length bytes.now ≤ 9 }
     ensures { result ≡ read_on 0 bytes.now }
 {
-    // Kept: not `parse`, which takes a `str`, and a leading `+`.
+    // Kept: not `parse`: it reads a `str` and not bytes, and accepts a leading `+`.
     let mut n: u32 = 0;
     for b in bytes {
         if !b.is_ascii_digit() {

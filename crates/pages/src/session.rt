@@ -68,7 +68,7 @@ pub fn respond(heap: Global, input: &[u8]) -> Result<String, AllocError>
     ensures { IfOk result (λ s. string_bytes s ≡ output input.now) }
 {
     if input.len() > LIMIT {
-        // Kept: as text, since as a case of `Refusal` it would be one that no line can get.
+        // Kept: 28 stands in the text, since clients are told a number; as a case of `Refusal` it would be one that no line can get.
         return String::from_str(heap, "!\t0\t28\n");
     }
     let mut rows = [Row::new(BLANK); 256];

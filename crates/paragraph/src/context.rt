@@ -61,6 +61,7 @@ impl Paragraph<'_, '_> {
         self.contexts(0, self.count()).base(self.direction)
     }
 
+    // Kept: left and right contexts beside each other, here and below: as one over a trait of both each call would name its side, as its name does now.
     /// The left context that the items of a stretch make of the one before them.
     pub(crate) fn left_after(&self, before: Left, first: usize, end: usize) -> Left
         requires ordered { first ≤ end }
@@ -95,6 +96,7 @@ impl Paragraph<'_, '_> {
         self.right_before(Right::end(base), place, self.count())
     }
 
+    // Kept: that a place is there is asked of each call here and in `level`, as an index asks it.
     /// The class of the item at a place, between its contexts.
     pub(crate) fn surroundings(&self, base: Side, place: usize) -> Surroundings
         requires { place < length (items_of self.now) }

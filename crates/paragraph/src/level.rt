@@ -39,6 +39,7 @@ impl Levels<'_, '_, '_> {
         level(self.base, at.left, at.class, at.right)
     }
 
+    // Kept: beside `stretch_end`, its mirror image: as one it would take a range, turned round or not, and tell a place or the one behind it.
     /// The first place of the longest stretch up to a place whose levels all pass a test.
     fn stretch_start<F: Fn(u8) -> bool>(&self, place: usize, passes: &F) -> usize
         requires callable { F.IsAlwaysCallable passes.now }

@@ -13,7 +13,7 @@ use crate::span::{Edges, Span};
 use rules::contexts::level;
 
 impl Change<'_, '_, '_> {
-    // Kept: with level_behind as one, `level_in(edges.base, left, first, right, end, i)` would take six values, and each call would pick four of them.
+    // Kept: with `level_behind` as one, `level_in(edges.base, left, first, right, end, i)` would take six values, four of which differ by the side at each call.
     /// The level of an item before the new ones, as the left edge saw it.
     fn level_before(&self, edges: Edges, i: usize) -> u8
         requires { i < self.now.place }
@@ -51,6 +51,7 @@ impl Change<'_, '_, '_> {
         self.level_behind(self.was, i) != self.level_behind(self.is, i)
     }
 
+    // Kept: beside `last_changed`, its mirror image.
     /// The first place that changed, from the front.
     fn first_changed(&self) -> Option<usize>
         ensures { FirstOf (IsChanged self.now) result }

@@ -23,7 +23,7 @@ pub(crate) fn row_over<E: Copy, T: Measure<E>>(rows: &[Row<E, T>], row: Row<E, T
     }
 }
 
-// Kept: rows, index and row apart, here and in the rotations, since the first write ends what `Split` says of the rows.
+// Kept: rows, index and row apart, here and in the rotations: a struct of them whose ghost field is `Split` would be false after the first write.
 /// Writes a row over its place in the table. Of the one given, only its element and its links count.
 pub(crate) fn write_node<E: Copy, T: Measure<E>>(rows: &mut [Row<E, T>], i: u16, row: Row<E, T>)
     requires { ∥ ((a : Shape E T) × (b : Shape E T) × Split rows.old row.left i row.right a b) ∥₁ }
@@ -99,7 +99,7 @@ pub(crate) fn rotate_right<E: Copy, T: Measure<E>>(
     m
 }
 
-// Kept: the mirror image of `rotate_right`; as one function over a side each of 14 accesses would be `row.side(near)` or `row.with(far, link)`.
+// Kept: the mirror image of `rotate_right`; as one function over a side each of its 13 accesses would be `row.side(near)` or `row.with(far, link)`.
 /// The same on the right, to the left.
 pub(crate) fn rotate_left<E: Copy, T: Measure<E>>(
     rows: &mut [Row<E, T>],

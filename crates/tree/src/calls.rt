@@ -69,7 +69,7 @@ impl<'a, E: Copy, T: Measure<E>> Tree<'a, E, T> {
         if count >= self.capacity() {
             return Err(Fault::Full);
         }
-        // Kept: `as u16` wherever a tested place goes into a row: the check proves that it loses nothing, and `u16::try_from` would bring an error that cannot come.
+        // Kept: `as u16` wherever a tested place goes into a row: the check proves that it loses nothing, and `u16::try_from(place).unwrap()` would test it a second time.
         self.heads = insert_in(self.rows, self.heads, place as u16, element);
         Ok(())
     }

@@ -18,6 +18,7 @@ pub(crate) struct Detached<E> {
     pub(crate) element: E,
 }
 
+// Kept: rows and a loose link apart, here, below and in `set_below`, for the reason at `part_of`.
 /// Detaches the last row of a part.
 pub(crate) fn detach_last<E: Copy, T: Measure<E>>(rows: &mut [Row<E, T>], i: u16) -> Detached<E>
     requires { ∥ ((s : Shape E T) × Loose rows.old (Some i) s) ∥₁ }

@@ -89,11 +89,11 @@ impl<E: Copy, T: Measure<E>> Tree<'_, E, T> {
         ensures capacity { capacity_of self.new ≡ capacity_of self.old }
     {
         for _gone in first..end {
-            let _ = self.remove(first);
+            self.remove(first).unwrap();
         }
     }
 
-    // Kept: with `set_all` as one, `self.each(place, elements, |tree, at, element| tree.insert(at, element))`, a proof would know each call and not what all of them leave.
+    // Kept: beside `set_all`, and no plainer as one: of `self.each(place, elements, |tree, at, element| tree.insert(at, element))` a contract could say what each call does, and not what all of them leave.
     /// Puts elements before a place.
     fn insert_all(&mut self, place: usize, elements: &[E])
         requires within { place ≤ length (elements_of self.old) }
@@ -102,7 +102,7 @@ impl<E: Copy, T: Measure<E>> Tree<'_, E, T> {
         ensures capacity { capacity_of self.new ≡ capacity_of self.old }
     {
         for (i, element) in elements.iter().enumerate() {
-            let _ = self.insert(place + i, *element);
+            self.insert(place + i, *element).unwrap();
         }
     }
 }
