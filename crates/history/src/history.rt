@@ -21,7 +21,7 @@ fn empty_out(paragraph: &mut Paragraph<'_, '_>, direction: Direction)
     ensures room { room_of paragraph.new ≡ room_of paragraph.old }
 {
     let outcome = paragraph.turn(direction);
-    let _ = paragraph.edit(0, outcome.count, &[]);
+    paragraph.edit(0, outcome.count, &[]).unwrap();
 }
 
 /// Empties the paragraph, carries out the changes, then answers the questions. What each was answered is written to the two lists, whose further entries stay.
