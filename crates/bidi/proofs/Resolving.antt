@@ -1,6 +1,6 @@
 -- Both passes of resolving, step by step.
-use Rattle.std.proofs.Common.{◌≡◌, ℕ, zero, suc, ◌+◌, ◌<◌, ◌≤◌, ◌≢◌, List, [], ◌∷◌, ◌++◌, length, get_or, take, drop, set, sym, refl, ap, ◌∙◌, ap₂, append_assoc, arith}
-use Rattle.std.proofs.lemmas.List.{drop_at, drop-set, drop_more, take_more, take_more_set, take_all, take-append-drop, map-append, length-map, length-take, get_or-set_other}
+use Rattle.std.proofs.Common.{◌≡◌, ℕ, zero, suc, ◌+◌, ◌<◌, ◌≤◌, ◌≢◌, List, [], ◌∷◌, ◌++◌, length, get_or, take, drop, set, sym, refl, ap, ◌∙◌, ap₂, arith}
+use Rattle.std.proofs.lemmas.List.{drop_more, take_more, take_more_set, take_all, take-append-drop, map-append, length-map, length-take, get_or-set_other}
 use Rattle.tree.specs.Measures.{total_of}
 use Rattle.rules.specs.declared.classes.Class.{Class}
 use Rattle.rules.specs.declared.classes.Side.{Side}
@@ -13,7 +13,6 @@ use Rattle.rules.proofs.ByContexts.{levels_are_low_lem}
 use Rattle.bidi.specs.declared.item.Item.{Item}
 use Rattle.bidi.specs.Actions.{act_right, right_at}
 use Rattle.bidi.specs.Items.{classes}
-use Rattle.bidi.specs.Joins.{right_of, strong_of, right_join, strong_join}
 use Rattle.bidi.specs.Resolving.{behind}
 use Rattle.bidi.specs.Sums.{context_ops}
 use Rattle.bidi.proofs.Acting.{right_acts}
@@ -23,26 +22,6 @@ pub record Gathered (items : List Item) (i : ℕ) (bytes : List ℕ) (right stro
   pub on_right : right ≡ (total_of context_ops (drop i items)).right
   pub on_strong : strong ≡ (total_of context_ops (drop i items)).strong
   pub written : drop i bytes ≡ behind (drop i items)
-
--- the last item of those that the pass has yet to come to
-pub without_last : (items front all : List Item) (e : Item) → all ≡ front ++ (e ∷ []) → items ≡ all ++ drop (length all) items
-    → (items ≡ front ++ drop (length front) items) × (drop (length front) items ≡ e ∷ drop (length all) items)
-without_last items front all e last split =
-    let whole : items ≡ front ++ (e ∷ drop (length all) items) = split ∙ ap (λ l. l ++ drop (length all) items) last ∙ append_assoc front (e ∷ []) (drop (length all) items) in
-    let rest : drop (length front) items ≡ e ∷ drop (length all) items = ap (drop (length front)) whole ∙ drop_at front (e ∷ drop (length all) items) (length front) refl in
-    (whole ∙ ap (λ l. front ++ l) (sym rest), rest)
-
-pub gathered_more : (items : List Item) (bytes : List ℕ) (i j right strong : ℕ) (e : Item) → i ≡ j + 1 → drop j items ≡ e ∷ drop i items → j < length bytes
-    → Gathered items i bytes right strong
-    → Gathered items j (set bytes j right) (right_join (right_of e.class) right) (strong_join (strong_of e.class) strong)
-gathered_more items bytes i j right strong e next here k g = record {
-  on_right = ap (right_join (right_of e.class)) g.on_right ∙ sym (ap (λ l. (total_of context_ops l).right) here);
-  on_strong = ap (strong_join (strong_of e.class)) g.on_strong ∙ sym (ap (λ l. (total_of context_ops l).strong) here);
-  written =
-      drop-set bytes j right k
-      ∙ ap₂ (λ (x : ℕ) (xs : List ℕ). x ∷ xs) g.on_right (ap (λ n. drop n bytes) (sym next) ∙ g.written)
-      ∙ sym (ap behind here);
-}
 
 -- what stands at a place after that pass
 behind_at : (items : List Item) (i : ℕ) → i < length items → get_or (behind items) i 0 ≡ (total_of context_ops (drop (suc i) items)).right
