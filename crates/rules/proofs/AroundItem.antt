@@ -53,9 +53,6 @@ module _ (level : ℕ → ℕ) where
       ∙ append_assoc (reverse (reversed level 2 ns)) zs (reverse (reversed level 2 ms))
 
   module _ (w : ℕ → ℕ) (p : ℕ) where
-    column_in : List ℕ → ℕ
-    column_in xs = sum_by w (before p xs)
-
     sum_back : (ns : List ℕ) → sum_by w (reverse (reversed level 2 ns)) ≡ sum_by w ns
     sum_back ns = omega (arith, sum-reverse w (reversed level 2 ns) [], sum_turned level 2 w ns [])
 

@@ -79,10 +79,6 @@ module _ {E T : Type 0} {rows : List (Row E T)} {link : Option ℕ} where
   no_place is leaf w h = omega arith
   no_place is (node a n e t b) w h = let l = w.linked in let z : ◌≡◌ {A = ℕ} 0 1 = cc in omega arith
 
-  pub no_more : link ≡ None → (s : Shape E T) → Under rows link s → size s ≡ 0
-  no_more is leaf w = refl
-  no_more is (node a n e t b) w = let l = w.linked in let z : ◌≡◌ {A = ℕ} 0 1 = cc in absurd (omega arith)
-
 pub tall_size : {E T : Type 0} (s : Shape E T) → tall s ≤ size s
 tall_size leaf = omega arith
 tall_size (node a i e t b) = let p = tall_size a in let q = tall_size b in omega arith
