@@ -1,5 +1,6 @@
 -- The law over whole histories.
-use Rattle.std.specs.Prelude.{◌≡◌, ℕ, ◌-◌, ◌^◌, ◌<◌, ◌≤◌, List, [], map, length, take, Ok, Err, Option, Result}
+use Rattle.std.specs.Prelude.{◌≡◌, ℕ, ◌-◌, ◌^◌, ◌<◌, ◌≤◌, List, [], map, length, take, Option, Result}
+use Rattle.std.specs.Result.{result_and}
 use Rattle.tree.specs.History.{History}
 use Rattle.tree.specs.Recordings.{short_of}
 use Rattle.tree.specs.Measures.{Operations}
@@ -43,14 +44,9 @@ pub record ParagraphHistory (room : ℕ) (direction : Direction) (recorded : Lis
   pub deep : (place : ℕ) → place < length (after_all room recorded (empty direction) changes).items → least (depth_in p.tree.now place) ≤ length (after_all room recorded (empty direction) changes).items
   pub sparse : (d : ℕ) → places_at (depth_in p.tree.now) d (length (after_all room recorded (empty direction) changes).items) ≤ 2 ^ (d - 1)
 
--- the first of two answers where it is a refusal, else the second
-abbrev pub earlier_refusal : {X E : Type 0} → Result X E → Result X E → Result X E
-earlier_refusal (Ok x) b = b
-earlier_refusal (Err e) b = Err e
-
 -- the list that is too short for its answers: those of the paragraph are looked at first
 abbrev pub shortest : {C O Q A D P R B : Type 0} → Recording C O Q A → Recording D P R B → Result (Unit {0}) Unrecorded
-shortest tree_calls calls = earlier_refusal (short_of calls) (short_of tree_calls)
+shortest tree_calls calls = result_and (short_of calls) (short_of tree_calls)
 
 -- The law: of a tree, for every lawful measure, and of a paragraph, each begun empty, changed by any list of calls and asked any list of questions.
 pub record Law {E T : Type 0} {g : Ghosts T E} (k : Operations E T) (room : ℕ) (tree_changes : List (TreeChange E)) (tree_outcomes : List (Result (Option E) Fault)) (tree_questions : List TreeQuestion) (tree_answers : List (Result (TreeTold E T) Fault)) (tree : Tree E T g) (paragraph_room : ℕ) (direction : Direction) (recorded : List Item) (changes : List Change) (outcomes : List (Result Outcome ParagraphFault)) (questions : List Question) (answers : List (Result Told ParagraphFault)) (paragraph : Paragraph) : Type 0 where
