@@ -102,9 +102,9 @@ fn time_all(rt: &HostRuntime, direction: Direction, text: &[Item]) -> anyhow::Re
     let mut paragraph = Paragraph::open(&mut tree, direction);
     let _ = paragraph.edit(0, 0, text);
     time_corrections(rt, &mut paragraph, text)?;
-    // as many items as before, which the corrections have changed
-    let _ = paragraph.turn(direction);
-    let _ = paragraph.edit(0, text.len(), text);
+    // the questions are asked of a paragraph opened anew, whatever the corrections left in this one
+    let mut paragraph = Paragraph::open(&mut tree, direction);
+    let _ = paragraph.edit(0, 0, text);
     time_questions(rt, &mut paragraph, text)
 }
 
