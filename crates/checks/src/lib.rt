@@ -4,5 +4,6 @@
 
 #[cfg(test)]
 mod edits;
+pub mod holders;
 #[cfg(test)]
 mod trees;

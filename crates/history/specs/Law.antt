@@ -8,7 +8,6 @@ use Rattle.tree.specs.Trees.{depth_in, least, places_at}
 use Rattle.tree.specs.declared.fault.Fault.{Fault}
 use Rattle.tree.specs.declared.history.Unrecorded.{Unrecorded}
 use Rattle.tree.specs.declared.history.Recording.{Recording}
-use Rattle.tree.specs.declared.measure.Measure.{Ghosts}
 use Rattle.tree.specs.declared.request.Change.{Change as TreeChange}
 use Rattle.tree.specs.declared.request.Question.{Question as TreeQuestion}
 use Rattle.tree.specs.declared.request.Told.{Told as TreeTold}
@@ -49,6 +48,6 @@ abbrev pub shortest : {C O Q A D P R B : Type 0} → Recording C O Q A → Recor
 shortest tree_calls calls = result_and (short_of calls) (short_of tree_calls)
 
 -- The law: of a tree, for every lawful measure, and of a paragraph, each begun empty, changed by any list of calls and asked any list of questions.
-pub record Law {E T : Type 0} {g : Ghosts T E} (k : Operations E T) (room : ℕ) (tree_changes : List (TreeChange E)) (tree_outcomes : List (Result (Option E) Fault)) (tree_questions : List TreeQuestion) (tree_answers : List (Result (TreeTold E T) Fault)) (tree : Tree E T g) (paragraph_room : ℕ) (direction : Direction) (recorded : List Item) (changes : List Change) (outcomes : List (Result Outcome ParagraphFault)) (questions : List Question) (answers : List (Result Told ParagraphFault)) (paragraph : Paragraph) : Type 0 where
+pub record Law {E T : Type 0} (k : Operations E T) (room : ℕ) (tree_changes : List (TreeChange E)) (tree_outcomes : List (Result (Option E) Fault)) (tree_questions : List TreeQuestion) (tree_answers : List (Result (TreeTold E T) Fault)) (tree : Tree E T) (paragraph_room : ℕ) (direction : Direction) (recorded : List Item) (changes : List Change) (outcomes : List (Result Outcome ParagraphFault)) (questions : List Question) (answers : List (Result Told ParagraphFault)) (paragraph : Paragraph) : Type 0 where
   pub of_tree : History k room tree_changes tree_outcomes tree_questions tree_answers tree
   pub of_paragraph : ParagraphHistory paragraph_room direction recorded changes outcomes questions answers paragraph

@@ -1,8 +1,10 @@
 -- Entries with the same numbers are the same, and so are pages over the same tree.
 use Rattle.std.proofs.Common.{◌≡◌, ◌≤◌, min, max, true, cond, length, Ok, Err, sym, refl, ap, ◌∙◌, arith, le-leb}
 use mathlib.Core.HLevel.{is_prop→PathP}
+use mathlib.Core.Logic.{∥∥₁_prop}
 use native.Mathlib.Bridge.{le_prop}
-use Rattle.tree.specs.Trees.{elements_of}
+use Rattle.tree.specs.Trees.{elements_of, TotalsRight}
+use Rattle.page.specs.Sums.{page_ops}
 use Rattle.page.specs.Entries.{in_range, entry_of, entry_answer}
 use Rattle.page.specs.declared.entry.Entry.{Entry}
 use Rattle.page.specs.declared.fault.PageFault.TheVariants.{Lines}
@@ -36,5 +38,6 @@ entered e = ap Ok (entry_is e) ∙ sym (ap (λ b. cond b (Ok (entry_of e.key e.l
 pub same_page : (p q : Page) → p.tree ≡ q.tree → p ≡ q
 same_page p q e = λ i. record {
   tree = e i;
+  totals = is_prop→PathP (λ j. ∥ TotalsRight page_ops (e j).now ∥₁) (λ j. ∥∥₁_prop) p.totals q.totals i;
   few = is_prop→PathP (λ j. length (elements_of (e j).now) ≤ 4096) (λ j. le_prop) p.few q.few i;
 }

@@ -4,13 +4,12 @@ use Rattle.std.specs.List.{insert}
 use Rattle.std.proofs.lemmas.List.Edits.{length-insert}
 use Rattle.tree.specs.Plain.{accepted, insert_answer, after_insert}
 use Rattle.tree.specs.Trees.{capacity_of}
-use Rattle.tree.specs.declared.measure.Measure.{Ghosts}
 use Rattle.tree.specs.declared.tree.Tree.{Tree}
 use Rattle.page.specs.Entries.{in_range, entry_of}
 use Rattle.page.specs.Pages.{put_answer, after_put}
 use Rattle.page.specs.declared.entry.Entry.{Entry}
 
-pub capacity_le : {E T : Type 0} {g : Ghosts T E} (t : Tree E T g) → capacity_of t ≤ 4096
+pub capacity_le : {E T : Type 0} (t : Tree E T) → capacity_of t ≤ 4096
 unfolding capacity_of
 capacity_le t = omega arith
 

@@ -1,3 +1,4 @@
 pub mod Alike
 pub mod Keeping
 pub mod Finding
+pub mod Totals

@@ -1,15 +1,16 @@
 -- What the plain paragraph answers to an edit, case by case, and what a paragraph keeps.
 use Rattle.std.proofs.Common.{◌≡◌, ℕ, ◌+◌, ◌-◌, ◌<◌, ◌≤◌, Bool, true, false, cond, ltb, leb, List, ◌++◌, length, take, drop, Some, None, Ok, Err, Option, Result, sym, refl, ap, ◌∙◌, arith, length-append, length-drop}
 use mathlib.Core.HLevel.{is_prop→PathP}
+use mathlib.Core.Logic.{∥∥₁_prop}
 use native.Mathlib.Bridge.{le_prop}
 use Rattle.std.proofs.lemmas.List.{length-take-le}
 use Rattle.std.proofs.lemmas.Bool.{lt-ltb, le-ltb, le-leb, ltb-true, ltb-false, leb-true, and_parts, and_from, cond-true, cond-false}
 use Rattle.tree.specs.Plain.{accepted, fits, spliced, replace_answer, after_replace}
-use Rattle.tree.specs.Trees.{elements_of, capacity_of}
-use Rattle.tree.specs.declared.measure.Measure.{Ghosts}
+use Rattle.tree.specs.Trees.{elements_of, capacity_of, TotalsRight}
 use Rattle.tree.specs.declared.tree.Tree.{Tree}
 use Rattle.bidi.specs.declared.item.Item.{Item}
 use Rattle.paragraph.specs.Faults.{Refusal, plain}
+use Rattle.paragraph.specs.Totals.{total_ops}
 use Rattle.paragraph.specs.Plain.{first_wide, unless_wide, edit_answer, after_edit}
 use Rattle.paragraph.specs.declared.paragraph.Paragraph.{Paragraph}
 
@@ -17,6 +18,7 @@ pub same_paragraph : (p q : Paragraph) → p.tree ≡ q.tree → p.direction ≡
 same_paragraph p q e d = λ i. record {
   tree = e i;
   direction = d i;
+  totals = is_prop→PathP (λ j. ∥ TotalsRight total_ops (e j).now ∥₁) (λ j. ∥∥₁_prop) p.totals q.totals i;
   few = is_prop→PathP (λ j. length (elements_of (e j).now) ≤ 4096) (λ j. le_prop) p.few q.few i;
 }
 
@@ -44,7 +46,7 @@ module _ {E : Type 0} (xs ys : List E) (first end : ℕ) where
           let l = length-spliced a b in
           omega arith
 
-pub few_after : {E T : Type 0} {g : Ghosts T E} (t : Tree E T g) (xs ys : List E) (first end : ℕ) → length xs ≤ 4096 → length (after_replace (capacity_of t) xs first end ys) ≤ 4096
+pub few_after : {E T : Type 0} (t : Tree E T) (xs ys : List E) (first end : ℕ) → length xs ≤ 4096 → length (after_replace (capacity_of t) xs first end ys) ≤ 4096
 unfolding capacity_of
 few_after t xs ys first end h = few_replace xs ys first end (capacity_of t) (omega arith) h
 

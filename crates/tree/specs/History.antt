@@ -13,7 +13,6 @@ use Rattle.tree.specs.declared.request.Question.{Question}
 use Rattle.tree.specs.declared.request.Question.TheVariants.{Read, Total}
 use Rattle.tree.specs.declared.request.Told.{Told}
 use Rattle.tree.specs.declared.request.Told.TheVariants.{Element, Sum}
-use Rattle.tree.specs.declared.measure.Measure.{Ghosts}
 use Rattle.tree.specs.declared.tree.Tree.{Tree}
 
 -- an insertion that was accepted tells nothing, a removal its element
@@ -65,7 +64,7 @@ short_list changes outcomes questions answers = cond (nat_lt outcomes changes) (
 -- sound rows whose stored totals are right; each element and total told is the plain list's, each depth is counted in the rows, and read and
 -- total refuse just where the plain list's length says; a place of depth d shows that at least `least d` elements are there, and at most
 -- 2 ^ (d - 1) places have the depth d.
-pub record History {E T : Type 0} {g : Ghosts T E} (k : Operations E T) (room : ℕ) (changes : List (Change E)) (outcomes : List (Result (Option E) Fault)) (questions : List Question) (answers : List (Result (Told E T) Fault)) (t : Tree E T g) : Type 0 where
+pub record History {E T : Type 0} (k : Operations E T) (room : ℕ) (changes : List (Change E)) (outcomes : List (Result (Option E) Fault)) (questions : List Question) (answers : List (Result (Told E T) Fault)) (t : Tree E T) : Type 0 where
   pub answered : map numbered (take (length changes) outcomes) ≡ answers_all room [] changes
   pub held : elements_of t ≡ after_all room [] changes
   pub rows : RowsSound t

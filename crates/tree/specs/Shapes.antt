@@ -1,6 +1,5 @@
 -- The shape of a tree of rows, and what it means that rows hold it.
 use Rattle.std.specs.Prelude.{◌≡◌, ℕ, zero, suc, ◌+◌, ◌-◌, ◌≤◌, max, cond, List, [], ◌∷◌, ◌++◌, length, Some, None, Option, ◌==◌, nat_lt}
-use Rattle.std.specs.Coded.{Unit-prop}
 use Rattle.std.specs.List.{slice_get}
 use Rattle.tree.specs.Measures.{Operations}
 use Rattle.tree.specs.declared.row.Row.{Row}
@@ -118,8 +117,3 @@ shape_at (suc d) rows (Some i) = grown (shape_at d rows) i (slice_get rows i)
 -- the shape read off the rows below the root
 abbrev pub shape_of : {E T : Type 0} → List (Row E T) → Option ℕ → Shape E T
 shape_of rows root = shape_at (length rows) rows root
-
--- that totals are right has only one proof where totals are a set; a ghost field needs this
-pub Totalled-prop : {E T : Type 0} (k : Operations E T) → IsSet T → (s : Shape E T) → IsProp (Totalled k s)
-Totalled-prop k h leaf = Unit-prop
-Totalled-prop k h (node a i e t b) = λ x y. λ j. (h _ _ x.0 y.0 j, Totalled-prop k h a x.1 y.1 j, Totalled-prop k h b x.2 y.2 j)

@@ -3,35 +3,34 @@ use Rattle.std.specs.Prelude.{ℕ, zero, suc, ◌+◌, min, cond, List, length, 
 use Rattle.tree.specs.Measures.{Operations}
 use Rattle.tree.specs.Shapes.{Shape, elements, depth, Totalled, Sound, shape_of}
 use Rattle.tree.specs.declared.row.Row.{Row}
-use Rattle.tree.specs.declared.measure.Measure.{Ghosts}
 use Rattle.tree.specs.declared.tree.Tree.{Tree}
 
 -- the rows as they stand
-abbrev pub rows_of : {E T : Type 0} {g : Ghosts T E} → Tree E T g → List (Row E T)
+abbrev pub rows_of : {E T : Type 0} → Tree E T → List (Row E T)
 rows_of t = t.rows.now
 
 -- the shape that the rows form below the root
-unfoldable pub shape : {E T : Type 0} {g : Ghosts T E} → Tree E T g → Shape E T
+unfoldable pub shape : {E T : Type 0} → Tree E T → Shape E T
 shape t = shape_of (rows_of t) t.heads.root
 
 -- the elements, first to last
-unfoldable pub elements_of : {E T : Type 0} {g : Ghosts T E} → Tree E T g → List E
+unfoldable pub elements_of : {E T : Type 0} → Tree E T → List E
 elements_of t = elements (shape t)
 
 -- the lesser of 4,096 and the number of rows
-unfoldable pub capacity_of : {E T : Type 0} {g : Ghosts T E} → Tree E T g → ℕ
+unfoldable pub capacity_of : {E T : Type 0} → Tree E T → ℕ
 capacity_of t = min 4096 (length (rows_of t))
 
 -- the depth of a place, counted in the rows: from the root to the place's row, both included
-unfoldable pub depth_in : {E T : Type 0} {g : Ghosts T E} → Tree E T g → ℕ → ℕ
+unfoldable pub depth_in : {E T : Type 0} → Tree E T → ℕ → ℕ
 depth_in t p = depth (shape t) p
 
 -- the rows in use have the heights and counts of one balanced tree, none is used twice, and every other row can be used again
-unfoldable pub RowsSound : {E T : Type 0} {g : Ghosts T E} → Tree E T g → Type 0
+unfoldable pub RowsSound : {E T : Type 0} → Tree E T → Type 0
 RowsSound t = ∥ (Sound (rows_of t) t.heads.root t.heads.free t.heads.used t.heads.count) ∥₁
 
 -- every row in use stores the total of its part
-unfoldable pub TotalsRight : {E T : Type 0} {g : Ghosts T E} → Operations E T → Tree E T g → Type 0
+unfoldable pub TotalsRight : {E T : Type 0} → Operations E T → Tree E T → Type 0
 TotalsRight k t = Totalled k (shape t)
 
 -- the least number of elements of a balanced tree of a height

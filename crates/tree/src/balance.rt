@@ -4,28 +4,30 @@ ghost use Rattle.std.specs.Prelude.{◌≡◌, ℕ, ◌+◌, ◌≤◌, Some};
 ghost use Rattle.tree.specs.Shapes.{Shape, size, Under, row_of, top_total};
 ghost use Rattle.tree.specs.Surgery.{Split, Becomes, rotate_right, rotate_left, rebalanced, joined};
 
-use crate::below::{part_of, row_at, write_row};
+use crate::below::{extent_of, part_of, row_at, write_row};
 use crate::measure::Measure;
-use crate::row::Row;
+use crate::row::{Node, Row};
 
 /// A row with the height, count and total of what stands on either side of it now.
-pub(crate) fn row_over<E: Copy, T: Measure<E>>(rows: &[Row<E, T>], row: Row<E, T>) -> Row<E, T>
+pub(crate) fn row_over<E: Copy, T: Measure<E>>(rows: &[Row<E, T>], row: Node<E>) -> Row<E, T>
     requires { ∥ ((a : Shape E T) × (b : Shape E T) × Under rows.now row.left a × Under rows.now row.right b × (size a + 1 + size b ≤ 4096)) ∥₁ }
     ensures { (a b : Shape E T) → Under rows.now row.left a → Under rows.now row.right b → result ≡ row_of a row.element (T.ops.join (T.ops.join (top_total T.ops a) (T.ops.of row.element)) (top_total T.ops b)) b }
 {
     let before = part_of(rows, row.left);
     let after = part_of(rows, row.right);
     Row {
+        element: row.element,
+        left: row.left,
+        right: row.right,
         height: 1 + before.height.max(after.height),
         count: before.count + 1 + after.count,
         total: before.total.join(T::of(row.element)).join(after.total),
-        ..row
     }
 }
 
 // Kept: rows, index and row apart, here and in the rotations: a struct of them whose ghost field is `Split` would be false after the first write.
-/// Writes a row over its place in the table. Of the one given, only its element and its links count.
-pub(crate) fn write_node<E: Copy, T: Measure<E>>(rows: &mut [Row<E, T>], i: u16, row: Row<E, T>)
+/// Writes a row over its place in the table.
+pub(crate) fn write_node<E: Copy, T: Measure<E>>(rows: &mut [Row<E, T>], i: u16, row: Node<E>)
     requires { ∥ ((a : Shape E T) × (b : Shape E T) × Split rows.old row.left i row.right a b) ∥₁ }
     ensures { (a b : Shape E T) → Split rows.old row.left i row.right a b → Becomes rows.old rows.new (Some i) (joined T.ops a i row.element b) }
 {
@@ -37,7 +39,7 @@ pub(crate) fn write_node<E: Copy, T: Measure<E>>(rows: &mut [Row<E, T>], i: u16,
 pub(crate) fn rotate_right<E: Copy, T: Measure<E>>(
     rows: &mut [Row<E, T>],
     i: u16,
-    row: Row<E, T>,
+    row: Node<E>,
 ) -> u16
     requires { ∥ ((a : Shape E T) × (b : Shape E T) × Split rows.old row.left i row.right a b) ∥₁ }
     ensures { (a b : Shape E T) → Split rows.old row.left i row.right a b → Becomes rows.old rows.new (Some result) (rotate_right T.ops a i row.element b) }
@@ -47,11 +49,11 @@ pub(crate) fn rotate_right<E: Copy, T: Measure<E>>(
         return i;
     };
     let below = row_at(rows, l);
-    if part_of(rows, below.right).height <= part_of(rows, below.left).height {
+    if extent_of(rows, below.right).height <= extent_of(rows, below.left).height {
         write_node(
             rows,
             i,
-            Row {
+            Node {
                 left: below.right,
                 ..row
             },
@@ -59,9 +61,10 @@ pub(crate) fn rotate_right<E: Copy, T: Measure<E>>(
         write_node(
             rows,
             l,
-            Row {
+            Node {
+                left: below.left,
+                element: below.element,
                 right: Some(i),
-                ..below
             },
         );
         return l;
@@ -74,15 +77,16 @@ pub(crate) fn rotate_right<E: Copy, T: Measure<E>>(
     write_node(
         rows,
         l,
-        Row {
+        Node {
+            left: below.left,
+            element: below.element,
             right: middle.left,
-            ..below
         },
     );
     write_node(
         rows,
         i,
-        Row {
+        Node {
             left: middle.right,
             ..row
         },
@@ -90,10 +94,10 @@ pub(crate) fn rotate_right<E: Copy, T: Measure<E>>(
     write_node(
         rows,
         m,
-        Row {
+        Node {
             left: Some(l),
+            element: middle.element,
             right: Some(i),
-            ..middle
         },
     );
     m
@@ -104,7 +108,7 @@ pub(crate) fn rotate_right<E: Copy, T: Measure<E>>(
 pub(crate) fn rotate_left<E: Copy, T: Measure<E>>(
     rows: &mut [Row<E, T>],
     i: u16,
-    row: Row<E, T>,
+    row: Node<E>,
 ) -> u16
     requires { ∥ ((a : Shape E T) × (b : Shape E T) × Split rows.old row.left i row.right a b) ∥₁ }
     ensures { (a b : Shape E T) → Split rows.old row.left i row.right a b → Becomes rows.old rows.new (Some result) (rotate_left T.ops a i row.element b) }
@@ -114,11 +118,11 @@ pub(crate) fn rotate_left<E: Copy, T: Measure<E>>(
         return i;
     };
     let below = row_at(rows, l);
-    if part_of(rows, below.left).height <= part_of(rows, below.right).height {
+    if extent_of(rows, below.left).height <= extent_of(rows, below.right).height {
         write_node(
             rows,
             i,
-            Row {
+            Node {
                 right: below.left,
                 ..row
             },
@@ -126,9 +130,10 @@ pub(crate) fn rotate_left<E: Copy, T: Measure<E>>(
         write_node(
             rows,
             l,
-            Row {
+            Node {
                 left: Some(i),
-                ..below
+                element: below.element,
+                right: below.right,
             },
         );
         return l;
@@ -141,15 +146,16 @@ pub(crate) fn rotate_left<E: Copy, T: Measure<E>>(
     write_node(
         rows,
         l,
-        Row {
+        Node {
             left: middle.right,
-            ..below
+            element: below.element,
+            right: below.right,
         },
     );
     write_node(
         rows,
         i,
-        Row {
+        Node {
             right: middle.left,
             ..row
         },
@@ -157,26 +163,22 @@ pub(crate) fn rotate_left<E: Copy, T: Measure<E>>(
     write_node(
         rows,
         m,
-        Row {
+        Node {
             left: Some(i),
+            element: middle.element,
             right: Some(l),
-            ..middle
         },
     );
     m
 }
 
 /// Writes a row over its place, rotated with what is too high on one side of it; the index of the row on top.
-pub(crate) fn rebalance<E: Copy, T: Measure<E>>(
-    rows: &mut [Row<E, T>],
-    i: u16,
-    row: Row<E, T>,
-) -> u16
+pub(crate) fn rebalance<E: Copy, T: Measure<E>>(rows: &mut [Row<E, T>], i: u16, row: Node<E>) -> u16
     requires { ∥ ((a : Shape E T) × (b : Shape E T) × Split rows.old row.left i row.right a b) ∥₁ }
     ensures { (a b : Shape E T) → Split rows.old row.left i row.right a b → Becomes rows.old rows.new (Some result) (rebalanced T.ops a i row.element b) }
 {
-    let before = part_of(rows, row.left).height;
-    let after = part_of(rows, row.right).height;
+    let before = extent_of(rows, row.left).height;
+    let after = extent_of(rows, row.right).height;
     if after + 1 < before {
         rotate_right(rows, i, row)
     } else if before + 1 < after {

@@ -2,11 +2,11 @@
 
 ghost use Rattle.std.specs.Prelude.{◌≡◌, ℕ, ◌<◌, length, Some, slice_set};
 ghost use Rattle.std.specs.List.{slice_get};
-ghost use Rattle.tree.specs.Shapes.{Shape, size, elements, Under, depth};
+ghost use Rattle.tree.specs.Shapes.{Shape, size, elements, Under, depth, tall};
 ghost use Rattle.tree.specs.Surgery.{part_of};
 
 use crate::measure::Measure;
-use crate::row::{Part, Row};
+use crate::row::{Extent, Part, Row};
 
 /// The row that a link leads to.
 pub(crate) fn row_at<E: Copy, T: Copy>(rows: &[Row<E, T>], i: u16) -> Row<E, T>
@@ -25,6 +25,26 @@ pub(crate) fn write_row<E: Copy, T: Copy>(rows: &mut [Row<E, T>], i: u16, row: R
 }
 
 // Kept: the rows and a link apart, here and wherever a link is followed; as methods of a struct of both with a ghost shape each walk would be `self.left().read(place)`, a struct made and its fact shown anew at each row.
+/// How high the part below a link is, and how many rows it has; its total is not asked for.
+pub(crate) fn extent_of<E: Copy, T: Measure<E>>(rows: &[Row<E, T>], link: Option<u16>) -> Extent
+    requires { ∥ ((s : Shape E T) × Under rows.now link s × Unit {0}) ∥₁ }
+    ensures { (s : Shape E T) → Under rows.now link s → (result.height ≡ tall s) × (result.count ≡ size s) }
+{
+    match link {
+        Some(i) => {
+            let row = row_at(rows, i);
+            Extent {
+                height: row.height,
+                count: row.count,
+            }
+        }
+        None => Extent {
+            height: 0,
+            count: 0,
+        },
+    }
+}
+
 /// What a row needs to know of the part below a link.
 pub(crate) fn part_of<E: Copy, T: Measure<E>>(rows: &[Row<E, T>], link: Option<u16>) -> Part<T>
     requires { ∥ ((s : Shape E T) × Under rows.now link s × Unit {0}) ∥₁ }
@@ -58,7 +78,7 @@ pub(crate) fn read_below<E: Copy, T: Measure<E>>(
 {
     let Some(i) = link else { unreachable() };
     let row = row_at(rows, i);
-    let before = part_of(rows, row.left).count;
+    let before = extent_of(rows, row.left).count;
     if place < before {
         let (element, depth) = read_below(rows, row.left, place);
         (element, depth + 1)

@@ -5,7 +5,7 @@ ghost use Rattle.tree.specs.Building.{Builds, Filling};
 
 use crate::balance::write_node;
 use crate::measure::Measure;
-use crate::row::{Heads, Row};
+use crate::row::{Heads, Node, Row};
 
 /// Builds a part of the elements from `first` up to and without `end`. The element of a place stands in the row of that number.
 pub(crate) fn build_below<E: Copy, T: Measure<E>>(
@@ -26,12 +26,12 @@ pub(crate) fn build_below<E: Copy, T: Measure<E>>(
     let middle = first + (end - first) / 2;
     let left = build_below(rows, elements, first, middle);
     let right = build_below(rows, elements, middle + 1, end);
-    let row = Row {
+    let node = Node {
         left,
+        element: elements[middle as usize],
         right,
-        ..Row::new(elements[middle as usize])
     };
-    write_node(rows, middle, row);
+    write_node(rows, middle, node);
     Some(middle)
 }
 

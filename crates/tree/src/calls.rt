@@ -3,7 +3,7 @@
 ghost use Rattle.std.specs.Prelude.{◌≡◌, ℕ, ◌-◌, ◌^◌, ◌≤◌, min, [], length, is_ok, IfOk, Ok, Err, nat_lt};
 ghost use Rattle.std.specs.List.{slice_get};
 ghost use Rattle.tree.specs.Plain.{numbered, Untouched, found, with_depth, insert_answer, after_insert, remove_answer, after_remove, replace_answer, after_replace, total_answer, seek_answer, around_answer, copy_answer, copied, fits};
-ghost use Rattle.tree.specs.Trees.{elements_of, capacity_of, depth_in, least, places_at};
+ghost use Rattle.tree.specs.Trees.{elements_of, capacity_of, depth_in, TotalsRight, least, places_at};
 
 use crate::around::around_below;
 use crate::below::{part_of, read_below};
@@ -23,6 +23,7 @@ impl<'a, E: Copy, T: Measure<E>> Tree<'a, E, T> {
     /// An empty tree, whatever the rows held.
     pub fn open(rows: &'a mut [Row<E, T>]) -> Self
         ensures elements { elements_of result ≡ [] }
+        ensures totals { TotalsRight T.ops result }
         ensures capacity { capacity_of result ≡ min 4096 (length rows.old) }
     {
         Tree {
@@ -35,6 +36,7 @@ impl<'a, E: Copy, T: Measure<E>> Tree<'a, E, T> {
     /// Drops every element; the rows can all be used again.
     pub fn clear(&mut self)
         ensures elements { elements_of self.new ≡ [] }
+        ensures totals { TotalsRight T.ops self.new }
         ensures capacity { capacity_of self.new ≡ capacity_of self.old }
     {
         self.heads = Heads::EMPTY;
@@ -60,6 +62,7 @@ impl<'a, E: Copy, T: Measure<E>> Tree<'a, E, T> {
         ensures answer { numbered result ≡ insert_answer (capacity_of self.old) (elements_of self.old) place }
         ensures elements { elements_of self.new ≡ after_insert (capacity_of self.old) (elements_of self.old) place element }
         ensures refused { Untouched result self.old self.new }
+        ensures totals { TotalsRight T.ops self.old → TotalsRight T.ops self.new }
         ensures capacity { capacity_of self.new ≡ capacity_of self.old }
     {
         let count = self.len();
@@ -79,6 +82,7 @@ impl<'a, E: Copy, T: Measure<E>> Tree<'a, E, T> {
         ensures answer { numbered result ≡ remove_answer (elements_of self.old) place }
         ensures elements { elements_of self.new ≡ after_remove (elements_of self.old) place }
         ensures refused { Untouched result self.old self.new }
+        ensures totals { TotalsRight T.ops self.old → TotalsRight T.ops self.new }
         ensures capacity { capacity_of self.new ≡ capacity_of self.old }
     {
         let count = self.len();
@@ -104,7 +108,7 @@ impl<'a, E: Copy, T: Measure<E>> Tree<'a, E, T> {
 
     /// The element at a place, between the total of all elements before it and the total of all behind it.
     pub fn around(&self, place: usize) -> Result<(T, E, T), Fault>
-        ensures answer { numbered result ≡ around_answer T.ops (elements_of self.now) place }
+        ensures answer { TotalsRight T.ops self.now → numbered result ≡ around_answer T.ops (elements_of self.now) place }
         ensures refusal { is_ok result ≡ nat_lt place (length (elements_of self.now)) }
     {
         if place >= self.len() {
@@ -129,7 +133,7 @@ impl<'a, E: Copy, T: Measure<E>> Tree<'a, E, T> {
 
     /// The total of a stretch: the totals of its elements, joined first to last.
     pub fn total(&self, first: usize, end: usize) -> Result<T, Fault>
-        ensures answer { numbered result ≡ total_answer T.ops (elements_of self.now) first end }
+        ensures answer { TotalsRight T.ops self.now → numbered result ≡ total_answer T.ops (elements_of self.now) first end }
         ensures refusal { is_ok result ≡ fits (elements_of self.now) first end }
     {
         if first > end {
@@ -143,7 +147,7 @@ impl<'a, E: Copy, T: Measure<E>> Tree<'a, E, T> {
 
     /// The first place whose element, with all before it, weighs more than `weight`.
     pub fn seek(&self, weight: u32) -> Result<usize, Fault>
-        ensures { numbered result ≡ seek_answer T.ops (elements_of self.now) weight }
+        ensures { TotalsRight T.ops self.now → numbered result ≡ seek_answer T.ops (elements_of self.now) weight }
     {
         let whole = part_of(self.rows, self.heads.root);
         if whole.total.weight() <= weight {

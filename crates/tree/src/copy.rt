@@ -4,7 +4,7 @@ ghost use Rattle.std.specs.Prelude.{◌≡◌, ℕ, ◌+◌, ◌≤◌, length};
 ghost use Rattle.std.specs.List.{between};
 ghost use Rattle.tree.specs.Shapes.{Shape, size, elements, Under};
 
-use crate::below::{part_of, row_at};
+use crate::below::{extent_of, row_at};
 use crate::measure::Measure;
 use crate::row::Row;
 
@@ -23,7 +23,7 @@ pub(crate) fn copy_below<E: Copy, T: Measure<E>>(
         return;
     }
     let row = row_at(rows, i);
-    let before = usize::from(part_of(rows, row.left).count);
+    let before = usize::from(extent_of(rows, row.left).count);
     if first > before {
         copy_below(rows, row.right, first - before - 1, out);
         return;

@@ -2,7 +2,7 @@
 
 ghost use Rattle.std.specs.Prelude.{◌≡◌, ◌≤◌, map, length, take, drop, OnOk};
 ghost use Rattle.tree.specs.Plain.{numbered, Untouched};
-ghost use Rattle.tree.specs.Trees.{elements_of, capacity_of, depth_in};
+ghost use Rattle.tree.specs.Trees.{elements_of, capacity_of, depth_in, TotalsRight};
 ghost use Rattle.tree.specs.History.{change_answer, after_change, after_all, answers_all, question_answer, History};
 ghost use Rattle.tree.specs.Recordings.{short_of, SameRecording, SpareEntriesStay, ListsUntouched};
 
@@ -61,6 +61,7 @@ impl<E: Copy, T: Measure<E>> Tree<'_, E, T> {
         ensures answer { numbered result ≡ change_answer (capacity_of self.old) (elements_of self.old) change }
         ensures elements { elements_of self.new ≡ after_change (capacity_of self.old) (elements_of self.old) change }
         ensures refused { Untouched result self.old self.new }
+        ensures totals { TotalsRight T.ops self.old → TotalsRight T.ops self.new }
         ensures capacity { capacity_of self.new ≡ capacity_of self.old }
     {
         match change {
@@ -77,7 +78,7 @@ impl<E: Copy, T: Measure<E>> Tree<'_, E, T> {
 
     /// Answers a question.
     pub fn ask(&self, question: Question) -> Result<Told<E, T>, Fault>
-        ensures { numbered result ≡ question_answer T.ops (elements_of self.now) (depth_in self.now) question }
+        ensures { TotalsRight T.ops self.now → numbered result ≡ question_answer T.ops (elements_of self.now) (depth_in self.now) question }
     {
         match question {
             Question::Read { place } => {
@@ -112,6 +113,7 @@ impl<E: Copy, T: Measure<E>> Tree<'_, E, T> {
         ensures elements { elements_of self.new ≡ after_all (capacity_of self.old) (elements_of self.old) changes.now }
         ensures answered { map numbered (take (length changes.now) outcomes.new) ≡ answers_all (capacity_of self.old) (elements_of self.old) changes.now }
         ensures spare { drop (length changes.now) outcomes.new ≡ drop (length changes.now) outcomes.old }
+        ensures totals { TotalsRight T.ops self.old → TotalsRight T.ops self.new }
     {
         // Kept: tried over `outcomes.iter_mut().zip(changes)`; what the slots hold after the loop stayed open.
         for (i, change) in changes.iter().enumerate() {
@@ -122,7 +124,7 @@ impl<E: Copy, T: Measure<E>> Tree<'_, E, T> {
     /// Answers questions, one after the other, and writes what each was told.
     fn ask_all(&self, questions: &[Question], answers: &mut [Result<Told<E, T>, Fault>])
         requires { length questions.now ≤ length answers.old }
-        ensures told { map numbered (take (length questions.now) answers.new) ≡ map (question_answer T.ops (elements_of self.now) (depth_in self.now)) questions.now }
+        ensures told { TotalsRight T.ops self.now → map numbered (take (length questions.now) answers.new) ≡ map (question_answer T.ops (elements_of self.now) (depth_in self.now)) questions.now }
         ensures spare { drop (length questions.now) answers.new ≡ drop (length questions.now) answers.old }
     {
         // Kept: tried over `answers.iter_mut().zip(questions)`; what the slots hold after the loop stayed open.

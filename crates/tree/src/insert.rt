@@ -5,9 +5,9 @@ ghost use Rattle.tree.specs.Shapes.{Shape};
 ghost use Rattle.tree.specs.Surgery.{Becomes, Fresh, inserted_at};
 
 use crate::balance::{rebalance, write_node};
-use crate::below::{part_of, row_at};
+use crate::below::{extent_of, row_at};
 use crate::measure::Measure;
-use crate::row::Row;
+use crate::row::{Node, Row};
 
 /// Puts a fresh row with an element before a place below the link, and answers the row on top.
 pub(crate) fn insert_below<E: Copy, T: Measure<E>>(
@@ -21,19 +21,25 @@ pub(crate) fn insert_below<E: Copy, T: Measure<E>>(
     ensures { (s : Shape E T) → Fresh rows.old link place fresh s → Becomes rows.old rows.new (Some result) (inserted_at T.ops s place fresh element) }
 {
     let Some(i) = link else {
-        write_node(rows, fresh, Row::new(element));
+        let leaf = Node {
+            left: None,
+            element,
+            right: None,
+        };
+        write_node(rows, fresh, leaf);
         return fresh;
     };
     let row = row_at(rows, i);
-    let before = part_of(rows, row.left).count;
+    let before = extent_of(rows, row.left).count;
     if place <= before {
         let left = insert_below(rows, row.left, place, fresh, element);
         rebalance(
             rows,
             i,
-            Row {
+            Node {
                 left: Some(left),
-                ..row
+                element: row.element,
+                right: row.right,
             },
         )
     } else {
@@ -41,9 +47,10 @@ pub(crate) fn insert_below<E: Copy, T: Measure<E>>(
         rebalance(
             rows,
             i,
-            Row {
+            Node {
+                left: row.left,
+                element: row.element,
                 right: Some(right),
-                ..row
             },
         )
     }

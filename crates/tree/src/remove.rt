@@ -6,9 +6,9 @@ ghost use Rattle.tree.specs.Surgery.{Loose, Sides, Becomes, rest as without_last
 ghost use Rattle.tree.specs.Changes.{Removes};
 
 use crate::balance::rebalance;
-use crate::below::{part_of, row_at};
+use crate::below::{extent_of, row_at};
 use crate::measure::Measure;
-use crate::row::Row;
+use crate::row::{Node, Row};
 
 /// A part without one of its rows, and that row with its element.
 #[derive(Clone, Copy)]
@@ -18,7 +18,7 @@ pub(crate) struct Detached<E> {
     pub(crate) element: E,
 }
 
-// Kept: rows and a loose link apart, here, below and in `set_below`, for the reason at `part_of`.
+// Kept: rows and a loose link apart, here, below and in `set_below`, for the reason at `extent_of`.
 /// Detaches the last row of a part.
 pub(crate) fn detach_last<E: Copy, T: Measure<E>>(rows: &mut [Row<E, T>], i: u16) -> Detached<E>
     requires { ∥ ((s : Shape E T) × Loose rows.old (Some i) s) ∥₁ }
@@ -37,9 +37,10 @@ pub(crate) fn detach_last<E: Copy, T: Measure<E>>(rows: &mut [Row<E, T>], i: u16
     let top = rebalance(
         rows,
         i,
-        Row {
+        Node {
+            left: row.left,
+            element: row.element,
             right: deep.rest,
-            ..row
         },
     );
     Detached {
@@ -61,12 +62,12 @@ pub(crate) fn merge<E: Copy, T: Measure<E>>(
         return right;
     };
     let last = detach_last(rows, l);
-    let row = Row {
+    let node = Node {
         left: last.rest,
+        element: last.element,
         right,
-        ..Row::new(last.element)
     };
-    Some(rebalance(rows, last.row, row))
+    Some(rebalance(rows, last.row, node))
 }
 
 /// Detaches the row at a place.
@@ -80,15 +81,16 @@ pub(crate) fn remove_below<E: Copy, T: Measure<E>>(
 {
     let Some(i) = link else { unreachable() };
     let row = row_at(rows, i);
-    let before = part_of(rows, row.left).count;
+    let before = extent_of(rows, row.left).count;
     if place < before {
         let deep = remove_below(rows, row.left, place);
         let top = rebalance(
             rows,
             i,
-            Row {
+            Node {
                 left: deep.rest,
-                ..row
+                element: row.element,
+                right: row.right,
             },
         );
         Detached {
@@ -107,9 +109,10 @@ pub(crate) fn remove_below<E: Copy, T: Measure<E>>(
         let top = rebalance(
             rows,
             i,
-            Row {
+            Node {
+                left: row.left,
+                element: row.element,
                 right: deep.rest,
-                ..row
             },
         );
         Detached {

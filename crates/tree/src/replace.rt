@@ -2,7 +2,7 @@
 
 ghost use Rattle.std.specs.Prelude.{◌≡◌, ◌+◌, ◌-◌, ◌<◌, ◌≤◌, [], length, set as set_list};
 ghost use Rattle.tree.specs.Plain.{numbered, Untouched, spliced, replace_answer, after_replace};
-ghost use Rattle.tree.specs.Trees.{elements_of, capacity_of};
+ghost use Rattle.tree.specs.Trees.{elements_of, capacity_of, TotalsRight};
 
 use crate::build::fill_in;
 use crate::fault::Fault;
@@ -16,6 +16,7 @@ impl<E: Copy, T: Measure<E>> Tree<'_, E, T> {
         ensures answer { numbered result ≡ replace_answer (capacity_of self.old) (elements_of self.old) first end elements.now }
         ensures elements { elements_of self.new ≡ after_replace (capacity_of self.old) (elements_of self.old) first end elements.now }
         ensures refused { Untouched result self.old self.new }
+        ensures totals { TotalsRight T.ops self.old → TotalsRight T.ops self.new }
         ensures capacity { capacity_of self.new ≡ capacity_of self.old }
     {
         let count = self.len();
@@ -41,6 +42,7 @@ impl<E: Copy, T: Measure<E>> Tree<'_, E, T> {
     fn fill(&mut self, elements: &[E])
         requires { length elements.now ≤ capacity_of self.old }
         ensures elements { elements_of self.new ≡ elements.now }
+        ensures totals { TotalsRight T.ops self.new }
         ensures capacity { capacity_of self.new ≡ capacity_of self.old }
     {
         self.heads = fill_in(self.rows, elements);
@@ -52,6 +54,7 @@ impl<E: Copy, T: Measure<E>> Tree<'_, E, T> {
         requires within { end ≤ length (elements_of self.old) }
         requires room { length (elements_of self.old) - (end - first) + length elements.now ≤ capacity_of self.old }
         ensures elements { elements_of self.new ≡ spliced (elements_of self.old) first end elements.now }
+        ensures totals { TotalsRight T.ops self.old → TotalsRight T.ops self.new }
         ensures capacity { capacity_of self.new ≡ capacity_of self.old }
     {
         let common = elements.len().min(end - first);
@@ -65,6 +68,7 @@ impl<E: Copy, T: Measure<E>> Tree<'_, E, T> {
     fn set(&mut self, place: usize, element: E)
         requires { place < length (elements_of self.old) }
         ensures elements { elements_of self.new ≡ set_list (elements_of self.old) place element }
+        ensures totals { TotalsRight T.ops self.old → TotalsRight T.ops self.new }
         ensures capacity { capacity_of self.new ≡ capacity_of self.old }
     {
         set_in(self.rows, self.heads, place as u16, element);
@@ -74,6 +78,7 @@ impl<E: Copy, T: Measure<E>> Tree<'_, E, T> {
     fn set_all(&mut self, place: usize, elements: &[E])
         requires { place + length elements.now ≤ length (elements_of self.old) }
         ensures elements { elements_of self.new ≡ spliced (elements_of self.old) place (place + length elements.now) elements.now }
+        ensures totals { TotalsRight T.ops self.old → TotalsRight T.ops self.new }
         ensures capacity { capacity_of self.new ≡ capacity_of self.old }
     {
         for (i, element) in elements.iter().enumerate() {
@@ -86,6 +91,7 @@ impl<E: Copy, T: Measure<E>> Tree<'_, E, T> {
         requires ordered { first ≤ end }
         requires within { end ≤ length (elements_of self.old) }
         ensures elements { elements_of self.new ≡ spliced (elements_of self.old) first end [] }
+        ensures totals { TotalsRight T.ops self.old → TotalsRight T.ops self.new }
         ensures capacity { capacity_of self.new ≡ capacity_of self.old }
     {
         for _gone in first..end {
@@ -99,6 +105,7 @@ impl<E: Copy, T: Measure<E>> Tree<'_, E, T> {
         requires within { place ≤ length (elements_of self.old) }
         requires room { length (elements_of self.old) + length elements.now ≤ capacity_of self.old }
         ensures elements { elements_of self.new ≡ spliced (elements_of self.old) place place elements.now }
+        ensures totals { TotalsRight T.ops self.old → TotalsRight T.ops self.new }
         ensures capacity { capacity_of self.new ≡ capacity_of self.old }
     {
         for (i, element) in elements.iter().enumerate() {

@@ -32,6 +32,21 @@ impl<E: Copy, T: Measure<E>> Row<E, T> {
     }
 }
 
+/// What is written to a row: its element, and the rows below it on either side. The rest follows from these.
+#[derive(Clone, Copy)]
+pub(crate) struct Node<E> {
+    pub(crate) left: Option<u16>,
+    pub(crate) element: E,
+    pub(crate) right: Option<u16>,
+}
+
+/// The height of a part, and how many rows it has.
+#[derive(Clone, Copy)]
+pub(crate) struct Extent {
+    pub(crate) height: u16,
+    pub(crate) count: u16,
+}
+
 /// What a row needs to know of the part on one side of it.
 #[derive(Clone, Copy)]
 pub(crate) struct Part<T> {

@@ -5,9 +5,9 @@ ghost use Rattle.tree.specs.Shapes.{Shape, size};
 ghost use Rattle.tree.specs.Surgery.{Loose, Becomes, changed_at};
 
 use crate::balance::write_node;
-use crate::below::{part_of, row_at};
+use crate::below::{extent_of, row_at};
 use crate::measure::Measure;
-use crate::row::Row;
+use crate::row::{Node, Row};
 
 /// Changes the element at a place, and the totals on the way to it. No row moves.
 pub(crate) fn set_below<E: Copy, T: Measure<E>>(
@@ -21,14 +21,19 @@ pub(crate) fn set_below<E: Copy, T: Measure<E>>(
 {
     let Some(i) = link else { unreachable() };
     let row = row_at(rows, i);
-    let before = part_of(rows, row.left).count;
+    let before = extent_of(rows, row.left).count;
+    let node = Node {
+        left: row.left,
+        element: row.element,
+        right: row.right,
+    };
     if place < before {
         set_below(rows, row.left, place, element);
-        write_node(rows, i, row);
+        write_node(rows, i, node);
     } else if place == before {
-        write_node(rows, i, Row { element, ..row });
+        write_node(rows, i, Node { element, ..node });
     } else {
         set_below(rows, row.right, place - before - 1, element);
-        write_node(rows, i, row);
+        write_node(rows, i, node);
     }
 }

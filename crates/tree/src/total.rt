@@ -5,7 +5,7 @@ ghost use Rattle.std.specs.List.{between};
 ghost use Rattle.tree.specs.Measures.{total_of};
 ghost use Rattle.tree.specs.Shapes.{Shape, size, elements, Under, Totalled};
 
-use crate::below::{part_of, row_at};
+use crate::below::{extent_of, row_at};
 use crate::measure::Measure;
 use crate::row::Row;
 
@@ -29,7 +29,7 @@ pub(crate) fn total_below<E: Copy, T: Measure<E>>(
     if first == 0 && end == row.count {
         return row.total;
     }
-    let before = part_of(rows, row.left).count;
+    let before = extent_of(rows, row.left).count;
     if end <= before {
         return total_below(rows, row.left, first, end);
     }

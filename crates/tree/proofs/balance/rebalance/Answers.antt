@@ -4,16 +4,16 @@ use native.Mathlib.Bridge.{le_prop}
 use Rattle.tree.proofs.Held.{tall_size}
 use Rattle.tree.proofs.balance.rebalance.Goals as goal
 
-pub part_of-before-requires : goal.part_of-before-requires
-part_of-before-requires g c = ∥∥₁_map c.requires (λ w. (w.0, w.2.on_left, tt))
+pub extent_of-before-requires : goal.extent_of-before-requires
+extent_of-before-requires g c = ∥∥₁_map c.requires (λ w. (w.0, w.2.on_left, tt))
 
-pub part_of-after-requires : goal.part_of-after-requires
-part_of-after-requires g c = ∥∥₁_map c.requires (λ w. (w.1, w.2.on_right, tt))
+pub extent_of-after-requires : goal.extent_of-after-requires
+extent_of-after-requires g c = ∥∥₁_map c.requires (λ w. (w.1, w.2.on_right, tt))
 
 pub overflow_add-after : goal.overflow_add-after
 overflow_add-after g c =
-    let h : c.part_of-after.result.height ≤ 4096 = ∥∥₁_elim c.requires le_prop (λ w.
-    let p = ap (λ p. p.height) (c.part_of-after.ensures w.1 w.2.on_right) in
+    let h : c.extent_of-after.result.height ≤ 4096 = ∥∥₁_elim c.requires le_prop (λ w.
+    let p = (c.extent_of-after.ensures w.1 w.2.on_right).0 in
     let q = tall_size w.1 in
     let f = w.2.few in
     omega arith) in
@@ -21,8 +21,8 @@ overflow_add-after g c =
 
 pub overflow_add-before : goal.overflow_add-before
 overflow_add-before g c =
-    let h : c.part_of-before.result.height ≤ 4096 = ∥∥₁_elim c.requires le_prop (λ w.
-    let p = ap (λ p. p.height) (c.part_of-before.ensures w.0 w.2.on_left) in
+    let h : c.extent_of-before.result.height ≤ 4096 = ∥∥₁_elim c.requires le_prop (λ w.
+    let p = (c.extent_of-before.ensures w.0 w.2.on_left).0 in
     let q = tall_size w.0 in
     let f = w.2.few in
     omega arith) in

@@ -12,31 +12,31 @@ returns-in_default g c = λ a b w. subst (Becomes _ _ _) (sym (right_of_none g.T
 pub row_at-below-requires : goal.row_at-below-requires
 row_at-below-requires g c = ∥∥₁_elim c.requires le_prop (λ w. within w.0 c.in-Some.is w.2.on_left)
 
-pub part_of-requires : goal.part_of-requires
-part_of-requires g c = ∥∥₁_map c.requires (λ w. let o = opened w.0 c.in-Some.is c.row_at-below.ensures w.2.on_left in (o.b, o.right, tt))
+pub extent_of-requires : goal.extent_of-requires
+extent_of-requires g c = ∥∥₁_map c.requires (λ w. let o = opened w.0 c.in-Some.is c.row_at-below.ensures w.2.on_left in (o.b, o.right, tt))
 
-pub part_of-requires-2 : goal.part_of-requires-2
-part_of-requires-2 g c = ∥∥₁_map c.requires (λ w. let o = opened w.0 c.in-Some.is c.row_at-below.ensures w.2.on_left in (o.a, o.left, tt))
+pub extent_of-requires-2 : goal.extent_of-requires-2
+extent_of-requires-2 g c = ∥∥₁_map c.requires (λ w. let o = opened w.0 c.in-Some.is c.row_at-below.ensures w.2.on_left in (o.a, o.left, tt))
 
-pub write_node-requires-then-part_of : goal.write_node-requires-then-part_of
-write_node-requires-then-part_of g c = ∥∥₁_map c.requires (λ w.
+pub write_node-requires-then-extent_of : goal.write_node-requires-then-extent_of
+write_node-requires-then-extent_of g c = ∥∥₁_map c.requires (λ w.
     let o = opened w.0 c.in-Some.is c.row_at-below.ensures w.2.on_left in
     (o.b, w.1, single_1 g.T.Measure.ops w.2 o))
 
-pub write_node-requires-then-part_of-2 : goal.write_node-requires-then-part_of-2
-write_node-requires-then-part_of-2 g c = ∥∥₁_map c.requires (λ w.
+pub write_node-requires-then-extent_of-2 : goal.write_node-requires-then-extent_of-2
+write_node-requires-then-extent_of-2 g c = ∥∥₁_map c.requires (λ w.
     let o = opened w.0 c.in-Some.is c.row_at-below.ensures w.2.on_left in
-    let t = c.write_node-then-part_of.ensures o.b w.1 (single_1 g.T.Measure.ops w.2 o) in
-    (o.a, _, single_2 g.T.Measure.ops w.2 o c.write_node-then-part_of.auto.rows t))
+    let t = c.write_node-then-extent_of.ensures o.b w.1 (single_1 g.T.Measure.ops w.2 o) in
+    (o.a, _, single_2 g.T.Measure.ops w.2 o c.write_node-then-extent_of.auto.rows t))
 
-pub returns-then-part_of : goal.returns-then-part_of
-returns-then-part_of g c = λ a b w.
+pub returns-then-extent_of : goal.returns-then-extent_of
+returns-then-extent_of g c = λ a b w.
     let o = opened a c.in-Some.is c.row_at-below.ensures w.on_left in
-    let t = c.write_node-then-part_of.ensures o.b b (single_1 g.T.Measure.ops w o) in
-    let h = ap (λ p. p.height) (c.part_of.ensures o.b o.right) in
-    let h' = ap (λ p. p.height) (c.part_of-2.ensures o.a o.left) in
+    let t = c.write_node-then-extent_of.ensures o.b b (single_1 g.T.Measure.ops w o) in
+    let h = (c.extent_of.ensures o.b o.right).0 in
+    let h' = (c.extent_of-2.ensures o.a o.left).0 in
     single_all g.T.Measure.ops w o c.args.row.element (omega arith) t
-    (c.write_node-then-part_of-2.ensures _ _ (single_2 g.T.Measure.ops w o c.write_node-then-part_of.auto.rows t))
+    (c.write_node-then-extent_of-2.ensures _ _ (single_2 g.T.Measure.ops w o c.write_node-then-extent_of.auto.rows t))
 
 pub row_at-middle-requires : goal.row_at-middle-requires
 row_at-middle-requires g c = ∥∥₁_elim c.requires le_prop (λ w.
@@ -71,6 +71,6 @@ returns g c = λ a b w.
     let t = c.write_node-2.ensures _ _ (double_1 g.T.Measure.ops w o q) in
     let v = c.write_node-3.ensures _ _ (double_2 g.T.Measure.ops w o q c.write_node-2.auto.rows t) in
     let x = c.write_node-4.ensures _ _ (double_3 g.T.Measure.ops w o q (c.write_node-3.auto.rows ∙ c.write_node-2.auto.rows) t v) in
-    let h = ap (λ p. p.height) (c.part_of.ensures o.b o.right) in
-    let h' = ap (λ p. p.height) (c.part_of-2.ensures o.a o.left) in
+    let h = (c.extent_of.ensures o.b o.right).0 in
+    let h' = (c.extent_of-2.ensures o.a o.left).0 in
     double_all g.T.Measure.ops w o q c.args.row.element (omega arith) t v x

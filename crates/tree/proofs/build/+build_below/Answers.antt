@@ -33,6 +33,5 @@ returns g t c =
     let within = c.requires.within in
     let inside : m < length xs = omega arith in
     let here_is = slice_get_read _ _ _ _ refl inside c.index-elements-middle.is in
-    let wrote = c.write_node.ensures l.0 r.0 (built_split k xs l.0 r.0 l.1 r.1 refl (omega arith) (omega arith) (omega arith) c.requires.room) in
-    let here = subst (λ e. Becomes c.build_below-right.new.rows c.write_node.new.rows (Some m) (joined k l.0 m e r.0)) (ap (λ y. y.element) c.new.ensures) wrote in
+    let here = c.write_node.ensures l.0 r.0 (built_split k xs l.0 r.0 l.1 r.1 refl (omega arith) (omega arith) (omega arith) c.requires.room) in
     (joined k l.0 m x r.0, built_node k xs l.0 r.0 l.1 r.1 refl (omega arith) (omega arith) x here_is c.requires.within refl here)

@@ -20,5 +20,4 @@ returns g c = λ a b w.
     let t = c.detach_last-last.ensures.turned a l in
     let n = (c.detach_last-last.ensures.named a 0 c.detach_last-last.result.element l).0 in
     merge_done k c.detach_last-last.result.element a b c.in-Some.is w t n (λ d. (c.detach_last-last.ensures.named a 0 d l).1)
-    (subst (λ e. Becomes c.detach_last-last.new.rows c.rebalance.new.rows (Some c.rebalance.result) (rebalanced k (rest k a) c.detach_last-last.result.row e b)) (ap (λ r. r.element) c.new.ensures)
-    (c.rebalance.ensures _ b (merge_split k a b c.in-Some.is w c.detach_last-last.auto.rows t n)))
+    (c.rebalance.ensures _ b (merge_split k a b c.in-Some.is w c.detach_last-last.auto.rows t n))

@@ -18,8 +18,8 @@ returns-then-end-row g t c = λ s w u l m.
     let z = ap size o.is in
     total_whole g.T.Measure.laws o u c.args.end (omega arith) ∙ ap (λ x. total_of g.T.Measure.ops (between x c.args.end (elements s))) (sym c.if-first-eq0.true)
 
-pub part_of-before-requires : goal.part_of-before-requires
-part_of-before-requires g t c = ∥∥₁_map c.requires (λ w. let o = opened w.0 c.in-Some.is c.row_at-row.ensures w.1 in (o.a, o.left, tt))
+pub extent_of-before-requires : goal.extent_of-before-requires
+extent_of-before-requires g t c = ∥∥₁_map c.requires (λ w. let o = opened w.0 c.in-Some.is c.row_at-row.ensures w.1 in (o.a, o.left, tt))
 
 pub total_below-requires : goal.total_below-requires
 total_below-requires g t c κs inside = (
@@ -30,7 +30,7 @@ total_below-requires g t c κs inside = (
       inside.1,
       ∥∥₁_map c.requires (λ w.
           let o = opened w.0 c.in-Some.is c.row_at-row.ensures w.1 in
-          let n = ap (λ p. p.count) (c.part_of-before.ensures o.a o.left) in
+          let n = (c.extent_of-before.ensures o.a o.left).1 in
           (o.a, o.left, (w.2.0, omega arith))),
     ),
   ),
@@ -40,7 +40,7 @@ pub returns-then-end-before : goal.returns-then-end-before
 returns-then-end-before g t c = λ s w u l m.
     let h = g.T.Measure.laws in
     let o = opened s c.in-Some.is c.row_at-row.ensures w in
-    let n = ap (λ p. p.count) (c.part_of-before.ensures o.a o.left) in
+    let n = (c.extent_of-before.ensures o.a o.left).1 in
     total_left h o u c.args.first c.args.end l (omega arith) (c.total_below.ensures o.a o.left (left_totalled h o u) l (omega arith))
 
 pub total_below-requires-then-first-before : goal.total_below-requires-then-first-before
@@ -52,7 +52,7 @@ total_below-requires-then-first-before g t c κs inside = (
       inside.1,
       ∥∥₁_map c.requires (λ w.
           let o = opened w.0 c.in-Some.is c.row_at-row.ensures w.1 in
-          let n = ap (λ p. p.count) (c.part_of-before.ensures o.a o.left) in
+          let n = (c.extent_of-before.ensures o.a o.left).1 in
           let z = ap size o.is in
           let u = w.2.0 in
           let v = w.2.1 in
@@ -65,9 +65,9 @@ pub returns-then-first-before : goal.returns-then-first-before
 returns-then-first-before g t c = λ s w u l m.
     let h = g.T.Measure.laws in
     let o = opened s c.in-Some.is c.row_at-row.ensures w in
-    let n = ap (λ p. p.count) (c.part_of-before.ensures o.a o.left) in
+    let n = (c.extent_of-before.ensures o.a o.left).1 in
     let z = ap size o.is in
-    let b = c.part_of-before.result.count in
+    let b = c.extent_of-before.result.count in
     total_right h o u c.args.first c.args.end (c.args.first - b - 1) (c.args.end - b - 1) l (omega arith) (omega arith)
     (c.total_below-then-first-before.ensures o.b o.right (right_totalled h o u) (omega arith) (omega arith))
 
@@ -80,7 +80,7 @@ total_below-left-requires g t c κs inside = (
       inside.1,
       ∥∥₁_map c.requires (λ w.
           let o = opened w.0 c.in-Some.is c.row_at-row.ensures w.1 in
-          let n = ap (λ p. p.count) (c.part_of-before.ensures o.a o.left) in
+          let n = (c.extent_of-before.ensures o.a o.left).1 in
           (o.a, o.left, (omega arith, omega arith))),
     ),
   ),
@@ -95,7 +95,7 @@ total_below-right-requires g t c κs inside = (
       inside.1,
       ∥∥₁_map c.requires (λ w.
           let o = opened w.0 c.in-Some.is c.row_at-row.ensures w.1 in
-          let n = ap (λ p. p.count) (c.part_of-before.ensures o.a o.left) in
+          let n = (c.extent_of-before.ensures o.a o.left).1 in
           let z = ap size o.is in
           let v = w.2.1 in
           (o.b, o.right, (omega arith, omega arith))),
@@ -108,9 +108,9 @@ returns g t c = λ s w u l m.
     let h = g.T.Measure.laws in
     let k = g.T.Measure.ops in
     let o = opened s c.in-Some.is c.row_at-row.ensures w in
-    let n = ap (λ p. p.count) (c.part_of-before.ensures o.a o.left) in
+    let n = (c.extent_of-before.ensures o.a o.left).1 in
     let z = ap size o.is in
-    let b = c.part_of-before.result.count in
+    let b = c.extent_of-before.result.count in
     total_both h o u c.args.first c.args.end (c.args.end - b - 1) {l = c.total_below-left.result} {m = c.total_below-right.result} (omega arith) (omega arith)
     (c.total_below-left.ensures o.a o.left (left_totalled h o u) (omega arith) (omega arith) ∙ ap (λ x. total_of k (between c.args.first x (elements o.a))) n)
     (c.total_below-right.ensures o.b o.right (right_totalled h o u) (omega arith) (omega arith))

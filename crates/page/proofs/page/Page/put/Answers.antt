@@ -1,4 +1,5 @@
 use Rattle.std.proofs.Common.{◌≤◌, length, sym, ap, ◌∙◌, subst}
+use mathlib.Core.Logic.{∥∥₁_map}
 use borrow.Rule.Reborrow.{re_v}
 use Rattle.std.proofs.lemmas.Result.{err_from_is_err_and}
 use Rattle.tree.specs.Trees.{elements_of}
@@ -10,6 +11,7 @@ use Rattle.page.proofs.page.Page.put.Goals as goal
 
 pub invariant_of-self : goal.invariant_of-self
 invariant_of-self c = record {
+  totals = ∥∥₁_map c.args.self.now.totals c.insert.ensures.totals;
   few = subst (λ xs. length xs ≤ 4096) (sym c.insert.ensures.elements) (few_insert _ _ _ _ (capacity_le _) c.args.self.now.few);
 }
 

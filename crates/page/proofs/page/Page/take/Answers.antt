@@ -1,8 +1,12 @@
 use Rattle.std.proofs.Common.{ap}
+use mathlib.Core.Logic.{∥∥₁_map}
 use borrow.Rule.Reborrow.{re_v}
 use Rattle.std.proofs.lemmas.Result.{err_from_is_err_and}
 use Rattle.page.proofs.Alike.{same_page}
 use Rattle.page.proofs.page.Page.take.Goals as goal
+
+pub invariant_of-self-clause-totals : goal.invariant_of-self-clause-totals
+invariant_of-self-clause-totals c = ∥∥₁_map c.args.self.now.totals c.remove.ensures.totals
 
 pub returns-in_err-remove : goal.returns-in_err-remove
 returns-in_err-remove c =

@@ -1,4 +1,5 @@
 use Rattle.std.proofs.Common.{◌+◌, ◌≤◌, length, Err, sym, refl, ap, ◌∙◌, subst, arith}
+use mathlib.Core.Logic.{∥∥₁_map}
 use borrow.Rule.Reborrow.{re_v}
 use Rattle.std.proofs.lemmas.Result.{err_from_is_err_and}
 use Rattle.tree.specs.Trees.{elements_of}
@@ -13,6 +14,7 @@ use Rattle.paragraph.proofs.paragraph.Paragraph.edit.Goals as goal
 
 pub invariant_of-self : goal.invariant_of-self
 invariant_of-self c = record {
+  totals = ∥∥₁_map c.args.self.now.totals c.replace.ensures.totals;
   few = subst (λ xs. length xs ≤ 4096) (sym c.replace.ensures.elements) (few_after _ _ _ _ _ c.args.self.now.few);
 }
 

@@ -7,7 +7,7 @@ use Rattle.tree.specs.Measures.{total_of}
 use Rattle.tree.specs.Plain.{found, with_sides}
 use Rattle.tree.specs.Shapes.{Sound}
 use Rattle.tree.specs.Sides.{Around}
-use Rattle.tree.specs.Trees.{shape, capacity_of, rows_of, elements_of}
+use Rattle.tree.specs.Trees.{shape, capacity_of, rows_of, elements_of, TotalsRight}
 use Rattle.tree.proofs.Facts.{count_is, found_is, before_is, behind_is}
 use Rattle.tree.proofs.tree.Tree.around.Goals as goal
 
@@ -19,7 +19,7 @@ returns-then-place-len g c =
     let n = count_is {h = tree.heads} tree.sound in
     let l = c.len.ensures.count in
     record {
-      answer = sym (ap (λ o. with_sides g.T.Measure.ops (elements_of tree) p (found o)) (slice_get_past (elements_of tree) p (omega arith)));
+      answer = λ _. sym (ap (λ o. with_sides g.T.Measure.ops (elements_of tree) p (found o)) (slice_get_past (elements_of tree) p (omega arith)));
       refusal = sym (le-ltb p (length (elements_of tree)) (omega arith));
     }
 
@@ -31,7 +31,7 @@ around_below-requires g c =
     ∥∥₁_map c.args.self.now.sound (λ w. let n = w.2.counted in (w.0, w.2.under, omega arith))
 
 pub returns : goal.returns
-unfolding shape elements_of
+unfolding shape elements_of TotalsRight
 returns g c =
     let tree = c.args.self.now in
     let k = g.T.Measure.ops in
@@ -46,9 +46,9 @@ returns g c =
     c.around_below.ensures w.0 w.2.under (omega arith) in
     let here = found_is {h = tree.heads} (Coded-set g.row.E.coded) tree.sound p told.1 (λ w. (all w).here) in
     record {
-      answer =
-          ap (λ m. Ok (m, told.1, told.2)) (before_is g.T.Measure.laws {h = tree.heads} tree.sound (Coded-set g.row.T.coded) p told all tree.totals)
-          ∙ ap (λ m. Ok (total_of k (take p xs), told.1, m)) (behind_is g.T.Measure.laws {h = tree.heads} tree.sound (Coded-set g.row.T.coded) p told all tree.totals)
+      answer = λ t.
+          ap (λ m. Ok (m, told.1, told.2)) (before_is g.T.Measure.laws {h = tree.heads} tree.sound (Coded-set g.row.T.coded) p told all t)
+          ∙ ap (λ m. Ok (total_of k (take p xs), told.1, m)) (behind_is g.T.Measure.laws {h = tree.heads} tree.sound (Coded-set g.row.T.coded) p told all t)
           ∙ sym (ap (λ o. with_sides k xs p (found o)) here);
       refusal = sym (lt-ltb p (length xs) (omega arith));
     }

@@ -19,10 +19,11 @@ loop-i-preserved g c =
     let pushed : take (i + 1) changes ≡ cs ++ (x ∷ []) = take_more changes i x c.loop-i-test.true ∙ ap (λ y. cs ++ (y ∷ [])) (sym c.index-changes-i.is) in
     let fits = c.requires in
     let long = c.loop-i.auto.outcomes in (
-      c.change.ensures.elements ∙ ap (λ r. after_change r here x) inv.3 ∙ ap (λ l. after_change room l x) inv.0 ∙ sym (ap (after_all room xs) pushed ∙ after_more room xs cs x),
+      c.change.ensures.elements ∙ ap (λ r. after_change r here x) inv.4 ∙ ap (λ l. after_change room l x) inv.0 ∙ sym (ap (after_all room xs) pushed ∙ after_more room xs cs x),
       mapped_more numbered c.loop-i.outcomes i c.change.result (omega arith) inv.1
-          ∙ ap (λ a. answers_all room xs cs ++ (a ∷ [])) (c.change.ensures.answer ∙ ap (λ r. change_answer r here x) inv.3 ∙ ap (λ l. change_answer room l x) inv.0)
+          ∙ ap (λ a. answers_all room xs cs ++ (a ∷ [])) (c.change.ensures.answer ∙ ap (λ r. change_answer r here x) inv.4 ∙ ap (λ l. change_answer room l x) inv.0)
           ∙ sym (ap (answers_all room xs) pushed ∙ answers_more room xs cs x),
       spare_more c.loop-i.outcomes c.args.outcomes.now i c.change.result inv.2,
-      c.change.ensures.capacity ∙ inv.3,
+      (λ t. c.change.ensures.totals (inv.3 t)),
+      c.change.ensures.capacity ∙ inv.4,
     )

@@ -18,8 +18,9 @@ loop-i-preserved g c =
     let q = c.requires.room in
     let y = c.index-elements-i.result in (
       c.insert.ensures.elements
-          ∙ ap (λ r. after_insert r (elements_of c.loop-i.self) (c.args.place + i) y) c.loop-i.invariant.1
+          ∙ ap (λ r. after_insert r (elements_of c.loop-i.self) (c.args.place + i) y) c.loop-i.invariant.2
           ∙ ap (λ l. after_insert room l (c.args.place + i) y) c.loop-i.invariant.0
           ∙ insert_more room xs ys c.args.place i p (omega arith) q y (c.args.place + i) y c.index-elements-i.is refl,
-      c.insert.ensures.capacity ∙ c.loop-i.invariant.1,
+      (λ t. c.insert.ensures.totals (c.loop-i.invariant.1 t)),
+      c.insert.ensures.capacity ∙ c.loop-i.invariant.2,
     )

@@ -1,13 +1,14 @@
 use Rattle.std.proofs.Common.{[], sym, refl, ap, subst}
 use Rattle.tree.specs.Shapes.{leaf, Totalled, elements}
-use Rattle.tree.specs.Trees.{shape, elements_of, capacity_of}
+use Rattle.tree.specs.Trees.{shape, elements_of, capacity_of, TotalsRight}
 use Rattle.tree.proofs.Wholes.{whole_empty, whole_shape}
 use Rattle.tree.proofs.tree.Tree.open.Goals as goal
 
 pub invariant_of-result : goal.invariant_of-result
-invariant_of-result g c = record { sound = ∣ (leaf, [], whole_empty c.args.rows.now) ∣₁; totals = subst (Totalled g.T.Measure.ops) (sym (whole_shape leaf (whole_empty c.args.rows.now))) tt }
+invariant_of-result g c = record { sound = ∣ (leaf, [], whole_empty c.args.rows.now) ∣₁ }
 
 pub returns : goal.returns
-unfolding shape elements_of capacity_of
+unfolding shape elements_of capacity_of TotalsRight
 returns g c =
-    record { elements = ap elements (whole_shape leaf (whole_empty c.args.rows.now)); capacity = refl }
+    let e = whole_shape leaf (whole_empty c.args.rows.now) in
+    record { elements = ap elements e; totals = subst (Totalled g.T.Measure.ops) (sym e) tt; capacity = refl }

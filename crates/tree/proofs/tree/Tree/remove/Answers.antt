@@ -1,6 +1,6 @@
 use Rattle.std.proofs.Common.{refl, ◌∙◌, arith}
 use base.Stored.{Coded-set}
-use Rattle.tree.specs.Trees.{shape, elements_of, capacity_of}
+use Rattle.tree.specs.Trees.{shape, elements_of, capacity_of, TotalsRight}
 use Rattle.tree.proofs.Facts.{count_is, sound_removed, elements_removed, totals_removed, found_removed}
 use Rattle.tree.proofs.Plains.{remove_no_place, remove_found}
 use Rattle.tree.proofs.tree.Tree.remove.Goals as goal
@@ -12,7 +12,7 @@ returns-then-place-count g c =
     let n = count_is {h = tree.heads} tree.sound in
     let l = c.len-count.ensures.count in
     let a = remove_no_place (elements_of tree) c.args.place (omega arith) in
-    record { answer = a.0; elements = a.1; refused = refl; capacity = refl }
+    record { answer = a.0; elements = a.1; refused = refl; totals = λ h. h; capacity = refl }
 
 pub invariant_of-self : goal.invariant_of-self
 invariant_of-self g c =
@@ -20,11 +20,10 @@ invariant_of-self g c =
     let k = g.T.Measure.ops in
     record {
       sound = sound_removed k {was = tree.heads} tree.sound c.remove_in-element.ensures;
-      totals = totals_removed k {was = tree.heads} tree.sound (Coded-set g.row.T.coded) c.remove_in-element.ensures tree.totals;
     }
 
 pub returns : goal.returns
-unfolding shape elements_of capacity_of
+unfolding shape elements_of capacity_of TotalsRight
 returns g c =
     let tree = c.args.self.now in
     let k = g.T.Measure.ops in
@@ -36,6 +35,7 @@ returns g c =
       answer = a.0;
       elements = elements_removed k {was = tree.heads} tree.sound (Coded-set g.row.E.coded) (omega arith) t ∙ a.1;
       refused = tt;
+      totals = totals_removed k {was = tree.heads} tree.sound (Coded-set g.row.T.coded) t;
       capacity = let l = c.remove_in-element.auto.rows in omega arith;
     }
 

@@ -11,5 +11,6 @@ loop-gone-preserved g c =
     let low = c.loop-gone.auto._gone in
     let within = c.requires.within in (
       c.remove.ensures.elements ∙ ap (λ ys. after_remove ys c.args.first) c.loop-gone.invariant.0 ∙ remove_more xs c.args.first n (omega arith) (omega arith),
-      c.remove.ensures.capacity ∙ c.loop-gone.invariant.1,
+      (λ t. c.remove.ensures.totals (c.loop-gone.invariant.1 t)),
+      c.remove.ensures.capacity ∙ c.loop-gone.invariant.2,
     )

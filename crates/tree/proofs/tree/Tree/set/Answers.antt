@@ -1,6 +1,6 @@
 use Rattle.std.proofs.Common.{arith}
 use base.Stored.{Coded-set}
-use Rattle.tree.specs.Trees.{shape, elements_of, capacity_of}
+use Rattle.tree.specs.Trees.{shape, elements_of, capacity_of, TotalsRight}
 use Rattle.tree.proofs.Facts.{count_is, count_fits, sound_set, elements_set, totals_set}
 use Rattle.tree.proofs.tree.Tree.set.Goals as goal
 
@@ -27,16 +27,16 @@ invariant_of-self g c =
     let k = g.T.Measure.ops in
     record {
       sound = sound_set k {h = tree.heads} tree.sound c.set_in.ensures;
-      totals = totals_set k {h = tree.heads} tree.sound (Coded-set g.row.T.coded) c.set_in.ensures tree.totals;
     }
 
 pub returns : goal.returns
-unfolding shape elements_of capacity_of
+unfolding shape elements_of capacity_of TotalsRight
 returns g c =
     let tree = c.args.self.now in
     let k = g.T.Measure.ops in
     let t = c.set_in.ensures in
     record {
       elements = elements_set k {h = tree.heads} tree.sound (Coded-set g.row.E.coded) t;
+      totals = totals_set k {h = tree.heads} tree.sound (Coded-set g.row.T.coded) t;
       capacity = let l = c.set_in.auto.rows in omega arith;
     }

@@ -20,5 +20,6 @@ loop-i-preserved g c =
     let i = c.loop-i.i in
     let y = c.index-elements-i.result in (
       c.set.ensures.elements ∙ ap (λ l. set l (c.args.place + i) y) c.loop-i.invariant.0 ∙ set_more xs ys c.args.place i y (c.args.place + i) y c.requires (omega arith) c.index-elements-i.is refl,
-      c.set.ensures.capacity ∙ c.loop-i.invariant.1,
+      (λ t. c.set.ensures.totals (c.loop-i.invariant.1 t)),
+      c.set.ensures.capacity ∙ c.loop-i.invariant.2,
     )

@@ -27,5 +27,6 @@ returns g c =
       elements =
           c.insert_all.ensures.elements ∙ ap (λ l. spliced l next next back) c.remove_all.ensures.elements ∙ splice_splice written back next end (omega arith)
           ∙ ap (λ l. spliced l next end back) is ∙ splice_on xs front back first next end (omega arith) (omega arith) w ∙ ap (spliced xs first end) (halves ys common);
+      totals = λ t. c.insert_all.ensures.totals (c.remove_all.ensures.totals (c.set_all.ensures.totals t));
       capacity = c.insert_all.ensures.capacity ∙ c.remove_all.ensures.capacity ∙ c.set_all.ensures.capacity;
     }

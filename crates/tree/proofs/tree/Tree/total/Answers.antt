@@ -6,7 +6,7 @@ use Rattle.std.proofs.lemmas.Bool.{cond-true, cond-false}
 use Rattle.tree.specs.Measures.{total_of}
 use Rattle.tree.specs.Plain.{fits}
 use Rattle.tree.specs.Shapes.{elements, Totalled}
-use Rattle.tree.specs.Trees.{shape, capacity_of, elements_of}
+use Rattle.tree.specs.Trees.{shape, capacity_of, elements_of, TotalsRight}
 use Rattle.tree.proofs.Facts.{count_is}
 use Rattle.tree.proofs.Plains.{fits_not_within, fits_both}
 use Rattle.tree.proofs.Wholes.{whole_shape}
@@ -19,7 +19,7 @@ returns-then-end-len g c =
     let n = count_is {h = tree.heads} tree.sound in
     let l = c.len.ensures.count in
     let f = fits_not_within (elements_of tree) c.args.first c.args.end (omega arith) in
-    record { answer = sym (cond-false (fits (elements_of tree) c.args.first c.args.end) _ _ f); refusal = sym f }
+    record { answer = λ _. sym (cond-false (fits (elements_of tree) c.args.first c.args.end) _ _ f); refusal = sym f }
 
 pub total_below-requires : goal.total_below-requires
 unfolding shape elements_of
@@ -29,7 +29,7 @@ total_below-requires g c =
     ∥∥₁_map c.args.self.now.sound (λ w. let n = w.2.counted in (w.0, w.2.under, (omega arith, omega arith)))
 
 pub returns : goal.returns
-unfolding shape elements_of
+unfolding shape elements_of TotalsRight
 returns g c =
     let tree = c.args.self.now in
     let k = g.T.Measure.ops in
@@ -39,11 +39,11 @@ returns g c =
     let l = c.len.ensures.count in
     let f = fits_both (elements_of tree) first end (omega arith) (omega arith) in
     record {
-      answer =
+      answer = λ t.
           ap Ok (∥∥₁_elim tree.sound (Coded-set g.row.T.coded _ _) (λ w.
           let m = w.2.counted in
           let s = whole_shape w.0 w.2 in
-          c.total_below.ensures w.0 w.2.under (subst (Totalled k) s tree.totals) (omega arith) (omega arith) ∙ ap (λ x. total_of k (between first end (elements x))) (sym s)))
+          c.total_below.ensures w.0 w.2.under (subst (Totalled k) s t) (omega arith) (omega arith) ∙ ap (λ x. total_of k (between first end (elements x))) (sym s)))
           ∙ sym (cond-true (fits (elements_of tree) first end) (Ok (total_of k (between first end (elements_of tree)))) _ f);
       refusal = sym f;
     }
