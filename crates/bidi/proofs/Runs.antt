@@ -61,7 +61,7 @@ module _ (level : ℕ → ℕ) (k : ℕ) where
         ∙ ap (λ n. take i xs ++ (reverse (take n (drop i xs)) ++ reversed level k (drop m (drop i xs)))) e
         ∙ ap (λ l. take i xs ++ l) (sym (turned_run (drop i xs) []))
 
-    low_step : r < length ys → take (r + 1) ys ++ reversed level k (drop (r + 1) ys) ≡ take r ys ++ reversed level k (drop r ys)
+    pub low_step : r < length ys → take (r + 1) ys ++ reversed level k (drop (r + 1) ys) ≡ take r ys ++ reversed level k (drop r ys)
     low_step lt =
         let m : ℕ = prefix_len (at_least level k) (drop i xs) in
         let same : length ys ≡ length xs = ap length split ∙ length-append done (drop r xs) ∙ omega (arith, long, length-drop r xs) in
