@@ -27,7 +27,8 @@ impl Change<'_, '_, '_> {
             }
             let at = self.paragraph.surroundings(base, i);
             if level(base, at.left, at.class, old) != level(base, at.left, at.class, new) {
-                found = hull(Some(Span::point(i)), found);
+                let here = Span::point(i);
+                found = hull(Some(here), found);
             }
             old = old.before(at.class);
             new = new.before(at.class);

@@ -31,7 +31,7 @@ loop-i-preserved c =
     elim c.if-level.branch [
       | then-level v ↦
           leftward_other b (start b) e.was.right e.is.right (take e.place cs) i (i - 1) c.loop-i.old c.loop-i.new c.loop-i.found w step
-          _ item _ context _ _ c.level.ensures.is c.level-in-loop-i.ensures.is _ _ c.before-old.ensures c.before-new.ensures _ (v.found-is ∙ v.hull-found.ensures ∙ ap (λ s. hull s c.loop-i.found) v.point.ensures) v.if-level.true
+          _ item _ context _ _ c.level.ensures.is c.level-in-loop-i.ensures.is _ _ c.before-old.ensures c.before-new.ensures _ (v.found-is ∙ v.hull-found.ensures ∙ ap (λ s. hull s c.loop-i.found) v.point-here.ensures) v.if-level.true
       | else-level v ↦
           leftward_same b (start b) e.was.right e.is.right (take e.place cs) i (i - 1) c.loop-i.old c.loop-i.new c.loop-i.found w step
           _ item _ context _ _ c.level.ensures.is c.level-in-loop-i.ensures.is _ _ c.before-old.ensures c.before-new.ensures _ v.found-is v.if-level.false
