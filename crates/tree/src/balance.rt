@@ -9,29 +9,29 @@ use crate::measure::Measure;
 use crate::row::{Node, Row};
 
 /// A row with the height, count and total of what stands on either side of it now.
-pub(crate) fn row_over<E: Copy, T: Measure<E>>(rows: &[Row<E, T>], row: Node<E>) -> Row<E, T>
-    requires { ∥ ((a : Shape E T) × (b : Shape E T) × Under rows.now row.left a × Under rows.now row.right b × (size a + 1 + size b ≤ 4096)) ∥₁ }
-    ensures { (a b : Shape E T) → Under rows.now row.left a → Under rows.now row.right b → result ≡ row_of a row.element (T.ops.join (T.ops.join (top_total T.ops a) (T.ops.of row.element)) (top_total T.ops b)) b }
+pub(crate) fn row_over<E: Copy, T: Measure<E>>(rows: &[Row<E, T>], node: Node<E>) -> Row<E, T>
+    requires { ∥ ((a : Shape E T) × (b : Shape E T) × Under rows.now node.left a × Under rows.now node.right b × (size a + 1 + size b ≤ 4096)) ∥₁ }
+    ensures { (a b : Shape E T) → Under rows.now node.left a → Under rows.now node.right b → result ≡ row_of a node.element (T.ops.join (T.ops.join (top_total T.ops a) (T.ops.of node.element)) (top_total T.ops b)) b }
 {
-    let before = part_of(rows, row.left);
-    let after = part_of(rows, row.right);
+    let before = part_of(rows, node.left);
+    let after = part_of(rows, node.right);
     Row {
-        element: row.element,
-        left: row.left,
-        right: row.right,
+        element: node.element,
+        left: node.left,
+        right: node.right,
         height: 1 + before.height.max(after.height),
         count: before.count + 1 + after.count,
-        total: before.total.join(T::of(row.element)).join(after.total),
+        total: before.total.join(T::of(node.element)).join(after.total),
     }
 }
 
-// Kept: rows, index and row apart, here and in the rotations: a struct of them whose ghost field is `Split` would be false after the first write.
+// Kept: rows, index and node apart, here and in the rotations: a struct of them whose ghost field is `Split` would be false after the first write.
 /// Writes a row over its place in the table.
-pub(crate) fn write_node<E: Copy, T: Measure<E>>(rows: &mut [Row<E, T>], i: u16, row: Node<E>)
-    requires { ∥ ((a : Shape E T) × (b : Shape E T) × Split rows.old row.left i row.right a b) ∥₁ }
-    ensures { (a b : Shape E T) → Split rows.old row.left i row.right a b → Becomes rows.old rows.new (Some i) (joined T.ops a i row.element b) }
+pub(crate) fn write_node<E: Copy, T: Measure<E>>(rows: &mut [Row<E, T>], i: u16, node: Node<E>)
+    requires { ∥ ((a : Shape E T) × (b : Shape E T) × Split rows.old node.left i node.right a b) ∥₁ }
+    ensures { (a b : Shape E T) → Split rows.old node.left i node.right a b → Becomes rows.old rows.new (Some i) (joined T.ops a i node.element b) }
 {
-    let row = row_over(rows, row);
+    let row = row_over(rows, node);
     write_row(rows, i, row);
 }
 
@@ -39,13 +39,13 @@ pub(crate) fn write_node<E: Copy, T: Measure<E>>(rows: &mut [Row<E, T>], i: u16,
 pub(crate) fn rotate_right<E: Copy, T: Measure<E>>(
     rows: &mut [Row<E, T>],
     i: u16,
-    row: Node<E>,
+    node: Node<E>,
 ) -> u16
-    requires { ∥ ((a : Shape E T) × (b : Shape E T) × Split rows.old row.left i row.right a b) ∥₁ }
-    ensures { (a b : Shape E T) → Split rows.old row.left i row.right a b → Becomes rows.old rows.new (Some result) (rotate_right T.ops a i row.element b) }
+    requires { ∥ ((a : Shape E T) × (b : Shape E T) × Split rows.old node.left i node.right a b) ∥₁ }
+    ensures { (a b : Shape E T) → Split rows.old node.left i node.right a b → Becomes rows.old rows.new (Some result) (rotate_right T.ops a i node.element b) }
 {
-    let Some(l) = row.left else {
-        write_node(rows, i, row);
+    let Some(l) = node.left else {
+        write_node(rows, i, node);
         return i;
     };
     let below = row_at(rows, l);
@@ -55,7 +55,7 @@ pub(crate) fn rotate_right<E: Copy, T: Measure<E>>(
             i,
             Node {
                 left: below.right,
-                ..row
+                ..node
             },
         );
         write_node(
@@ -70,7 +70,7 @@ pub(crate) fn rotate_right<E: Copy, T: Measure<E>>(
         return l;
     }
     let Some(m) = below.right else {
-        write_node(rows, i, row);
+        write_node(rows, i, node);
         return i;
     };
     let middle = row_at(rows, m);
@@ -88,7 +88,7 @@ pub(crate) fn rotate_right<E: Copy, T: Measure<E>>(
         i,
         Node {
             left: middle.right,
-            ..row
+            ..node
         },
     );
     write_node(
@@ -103,18 +103,18 @@ pub(crate) fn rotate_right<E: Copy, T: Measure<E>>(
     m
 }
 
-// Kept: the mirror image of `rotate_right`; as one function over a side each of its 13 accesses would be `row.side(near)` or `row.with(far, link)`.
+// Kept: the mirror image of `rotate_right`; as one function over a side each of its 13 accesses would be `node.side(near)` or `node.with(far, link)`.
 /// The same on the right, to the left.
 pub(crate) fn rotate_left<E: Copy, T: Measure<E>>(
     rows: &mut [Row<E, T>],
     i: u16,
-    row: Node<E>,
+    node: Node<E>,
 ) -> u16
-    requires { ∥ ((a : Shape E T) × (b : Shape E T) × Split rows.old row.left i row.right a b) ∥₁ }
-    ensures { (a b : Shape E T) → Split rows.old row.left i row.right a b → Becomes rows.old rows.new (Some result) (rotate_left T.ops a i row.element b) }
+    requires { ∥ ((a : Shape E T) × (b : Shape E T) × Split rows.old node.left i node.right a b) ∥₁ }
+    ensures { (a b : Shape E T) → Split rows.old node.left i node.right a b → Becomes rows.old rows.new (Some result) (rotate_left T.ops a i node.element b) }
 {
-    let Some(l) = row.right else {
-        write_node(rows, i, row);
+    let Some(l) = node.right else {
+        write_node(rows, i, node);
         return i;
     };
     let below = row_at(rows, l);
@@ -124,7 +124,7 @@ pub(crate) fn rotate_left<E: Copy, T: Measure<E>>(
             i,
             Node {
                 right: below.left,
-                ..row
+                ..node
             },
         );
         write_node(
@@ -139,7 +139,7 @@ pub(crate) fn rotate_left<E: Copy, T: Measure<E>>(
         return l;
     }
     let Some(m) = below.left else {
-        write_node(rows, i, row);
+        write_node(rows, i, node);
         return i;
     };
     let middle = row_at(rows, m);
@@ -157,7 +157,7 @@ pub(crate) fn rotate_left<E: Copy, T: Measure<E>>(
         i,
         Node {
             right: middle.left,
-            ..row
+            ..node
         },
     );
     write_node(
@@ -173,18 +173,22 @@ pub(crate) fn rotate_left<E: Copy, T: Measure<E>>(
 }
 
 /// Writes a row over its place, rotated with what is too high on one side of it; the index of the row on top.
-pub(crate) fn rebalance<E: Copy, T: Measure<E>>(rows: &mut [Row<E, T>], i: u16, row: Node<E>) -> u16
-    requires { ∥ ((a : Shape E T) × (b : Shape E T) × Split rows.old row.left i row.right a b) ∥₁ }
-    ensures { (a b : Shape E T) → Split rows.old row.left i row.right a b → Becomes rows.old rows.new (Some result) (rebalanced T.ops a i row.element b) }
+pub(crate) fn rebalance<E: Copy, T: Measure<E>>(
+    rows: &mut [Row<E, T>],
+    i: u16,
+    node: Node<E>,
+) -> u16
+    requires { ∥ ((a : Shape E T) × (b : Shape E T) × Split rows.old node.left i node.right a b) ∥₁ }
+    ensures { (a b : Shape E T) → Split rows.old node.left i node.right a b → Becomes rows.old rows.new (Some result) (rebalanced T.ops a i node.element b) }
 {
-    let before = extent_of(rows, row.left).height;
-    let after = extent_of(rows, row.right).height;
+    let before = extent_of(rows, node.left).height;
+    let after = extent_of(rows, node.right).height;
     if after + 1 < before {
-        rotate_right(rows, i, row)
+        rotate_right(rows, i, node)
     } else if before + 1 < after {
-        rotate_left(rows, i, row)
+        rotate_left(rows, i, node)
     } else {
-        write_node(rows, i, row);
+        write_node(rows, i, node);
         i
     }
 }

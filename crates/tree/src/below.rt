@@ -28,7 +28,8 @@ pub(crate) fn write_row<E: Copy, T: Copy>(rows: &mut [Row<E, T>], i: u16, row: R
 /// How high the part below a link is, and how many rows it has; its total is not asked for.
 pub(crate) fn extent_of<E: Copy, T: Measure<E>>(rows: &[Row<E, T>], link: Option<u16>) -> Extent
     requires { ∥ ((s : Shape E T) × Under rows.now link s × Unit {0}) ∥₁ }
-    ensures { (s : Shape E T) → Under rows.now link s → (result.height ≡ tall s) × (result.count ≡ size s) }
+    ensures height { (s : Shape E T) → Under rows.now link s → result.height ≡ tall s }
+    ensures count { (s : Shape E T) → Under rows.now link s → result.count ≡ size s }
 {
     match link {
         Some(i) => {

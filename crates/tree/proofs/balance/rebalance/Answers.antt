@@ -13,7 +13,7 @@ extent_of-after-requires g c = ∥∥₁_map c.requires (λ w. (w.1, w.2.on_righ
 pub overflow_add-after : goal.overflow_add-after
 overflow_add-after g c =
     let h : c.extent_of-after.result.height ≤ 4096 = ∥∥₁_elim c.requires le_prop (λ w.
-    let p = (c.extent_of-after.ensures w.1 w.2.on_right).0 in
+    let p = c.extent_of-after.ensures.height w.1 w.2.on_right in
     let q = tall_size w.1 in
     let f = w.2.few in
     omega arith) in
@@ -22,7 +22,7 @@ overflow_add-after g c =
 pub overflow_add-before : goal.overflow_add-before
 overflow_add-before g c =
     let h : c.extent_of-before.result.height ≤ 4096 = ∥∥₁_elim c.requires le_prop (λ w.
-    let p = (c.extent_of-before.ensures w.0 w.2.on_left).0 in
+    let p = c.extent_of-before.ensures.height w.0 w.2.on_left in
     let q = tall_size w.0 in
     let f = w.2.few in
     omega arith) in

@@ -33,9 +33,9 @@ pub returns-then-extent_of : goal.returns-then-extent_of
 returns-then-extent_of g c = λ a b w.
     let o = opened b c.in-Some.is c.row_at-below.ensures w.on_right in
     let t = c.write_node-then-extent_of.ensures a o.a (lsingle_1 g.T.Measure.ops w o) in
-    let h = (c.extent_of.ensures o.a o.left).0 in
-    let h' = (c.extent_of-2.ensures o.b o.right).0 in
-    lsingle_all g.T.Measure.ops w o c.args.row.element (omega arith) t
+    let h = c.extent_of.ensures.height o.a o.left in
+    let h' = c.extent_of-2.ensures.height o.b o.right in
+    lsingle_all g.T.Measure.ops w o c.args.node.element (omega arith) t
     (c.write_node-then-extent_of-2.ensures _ _ (lsingle_2 g.T.Measure.ops w o c.write_node-then-extent_of.auto.rows t))
 
 pub row_at-middle-requires : goal.row_at-middle-requires
@@ -71,6 +71,6 @@ returns g c = λ a b w.
     let t = c.write_node-2.ensures _ _ (ldouble_1 g.T.Measure.ops w o q) in
     let v = c.write_node-3.ensures _ _ (ldouble_2 g.T.Measure.ops w o q c.write_node-2.auto.rows t) in
     let x = c.write_node-4.ensures _ _ (ldouble_3 g.T.Measure.ops w o q (c.write_node-3.auto.rows ∙ c.write_node-2.auto.rows) t v) in
-    let h = (c.extent_of.ensures o.a o.left).0 in
-    let h' = (c.extent_of-2.ensures o.b o.right).0 in
-    ldouble_all g.T.Measure.ops w o q c.args.row.element (omega arith) t v x
+    let h = c.extent_of.ensures.height o.a o.left in
+    let h' = c.extent_of-2.ensures.height o.b o.right in
+    ldouble_all g.T.Measure.ops w o q c.args.node.element (omega arith) t v x

@@ -13,4 +13,4 @@ write_row-requires g c = ∥∥₁_elim c.requires le_prop (λ w. w.2.at)
 pub returns : goal.returns
 returns g c = λ a b w.
     let r = c.row_over-row.ensures a b w.on_left w.on_right in
-    wrote a b c.args.row.element _ w (c.write_row.ensures ∙ ap (set c.args.rows.now c.args.i) r)
+    wrote a b c.args.node.element _ w (c.write_row.ensures ∙ ap (set c.args.rows.now c.args.i) r)

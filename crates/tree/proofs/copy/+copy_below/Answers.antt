@@ -30,7 +30,7 @@ copy_below-requires g t c κs inside = (
       inside.1,
       ∥∥₁_map c.requires (λ w.
           let o = opened w.0 c.in-Some.is c.row_at-row.ensures w.1 in
-          let n = (c.extent_of.ensures o.a o.left).1 in
+          let n = c.extent_of.ensures.count o.a o.left in
           let f = c.from-before.ensures in
           let z = ap size o.is in
           let h = w.2 in
@@ -42,7 +42,7 @@ copy_below-requires g t c κs inside = (
 pub returns-then-first-before : goal.returns-then-first-before
 returns-then-first-before g t c = λ s w h.
     let o = opened s c.in-Some.is c.row_at-row.ensures w in
-    let n = (c.extent_of.ensures o.a o.left).1 in
+    let n = c.extent_of.ensures.count o.a o.left in
     let f = c.from-before.ensures in
     let z = ap size o.is in
     let e = length-elements o.a in
@@ -64,7 +64,7 @@ copy_below-requires-then-first-out g t c κs inside = (
       inside.1,
       ∥∥₁_map c.requires (λ w.
           let o = opened w.0 c.in-Some.is c.row_at-row.ensures w.1 in
-          let n = (c.extent_of.ensures o.a o.left).1 in
+          let n = c.extent_of.ensures.count o.a o.left in
           let f = c.from-before.ensures in
           (o.a, o.left, omega arith)),
     ),
@@ -80,7 +80,7 @@ copy_below-requires-2 g t c κs inside = (
       inside.1,
       ∥∥₁_map c.requires (λ w.
           let o = opened w.0 c.in-Some.is c.row_at-row.ensures w.1 in
-          let n = (c.extent_of.ensures o.a o.left).1 in
+          let n = c.extent_of.ensures.count o.a o.left in
           let f = c.from-before.ensures in
           let l = c.split_at_mut-front.ensures.front_len in
           (o.a, o.left, omega arith)),
@@ -97,7 +97,7 @@ copy_below-requires-3 g t c κs inside = (
       inside.1,
       ∥∥₁_map c.requires (λ w.
           let o = opened w.0 c.in-Some.is c.row_at-row.ensures w.1 in
-          let n = (c.extent_of.ensures o.a o.left).1 in
+          let n = c.extent_of.ensures.count o.a o.left in
           let f = c.from-before.ensures in
           let z = ap size o.is in
           let h = w.2 in
@@ -112,7 +112,7 @@ copy_below-requires-3 g t c κs inside = (
 pub returns : goal.returns
 returns g t c = λ s w h.
     let o = opened s c.in-Some.is c.row_at-row.ensures w in
-    let n = (c.extent_of.ensures o.a o.left).1 in
+    let n = c.extent_of.ensures.count o.a o.left in
     let f = c.from-before.ensures in
     let z = ap size o.is in
     let e = length-elements o.a in

@@ -29,7 +29,7 @@ insert_below-left-requires g t c κs inside = (
       inside.1,
       ∥∥₁_map c.requires (λ w.
           let o = opened w.0 c.in-Some.is c.row_at-row.ensures w.1.under in
-          let n = (c.extent_of-before.ensures o.a o.left).1 in
+          let n = c.extent_of-before.ensures.count o.a o.left in
           (o.a, go_left g.T.Measure.ops w.1 o (omega arith))),
     ),
   ),
@@ -38,7 +38,7 @@ insert_below-left-requires g t c κs inside = (
 pub rebalance-requires : goal.rebalance-requires
 rebalance-requires g t c = ∥∥₁_map c.requires (λ w.
     let o = opened w.0 c.in-Some.is c.row_at-row.ensures w.1.under in
-    let n = (c.extent_of-before.ensures o.a o.left).1 in
+    let n = c.extent_of-before.ensures.count o.a o.left in
     let v = c.insert_below-left.ensures o.a (go_left g.T.Measure.ops w.1 o (omega arith)) in
     (_, o.b, level_left g.T.Measure.ops w.1 o c.args.place c.args.element c.insert_below-left.auto.rows v))
 
@@ -51,7 +51,7 @@ insert_below-right-requires g t c κs inside = (
       inside.1,
       ∥∥₁_map c.requires (λ w.
           let o = opened w.0 c.in-Some.is c.row_at-row.ensures w.1.under in
-          let n = (c.extent_of-before.ensures o.a o.left).1 in
+          let n = c.extent_of-before.ensures.count o.a o.left in
           (o.b, go_right g.T.Measure.ops w.1 o _ (omega arith) (omega arith))),
     ),
   ),
@@ -60,7 +60,7 @@ insert_below-right-requires g t c κs inside = (
 pub rebalance-requires-else-place-before : goal.rebalance-requires-else-place-before
 rebalance-requires-else-place-before g t c = ∥∥₁_map c.requires (λ w.
     let o = opened w.0 c.in-Some.is c.row_at-row.ensures w.1.under in
-    let n = (c.extent_of-before.ensures o.a o.left).1 in
+    let n = c.extent_of-before.ensures.count o.a o.left in
     let p = c.args.place - c.extent_of-before.result.count - 1 in
     let v = c.insert_below-right.ensures o.b (go_right g.T.Measure.ops w.1 o p (omega arith) (omega arith)) in
     (o.a, _, level_right g.T.Measure.ops w.1 o p c.args.element c.insert_below-right.auto.rows v))
@@ -68,7 +68,7 @@ rebalance-requires-else-place-before g t c = ∥∥₁_map c.requires (λ w.
 pub returns-then-place-before : goal.returns-then-place-before
 returns-then-place-before g t c = λ s w.
     let o = opened s c.in-Some.is c.row_at-row.ensures w.under in
-    let n = (c.extent_of-before.ensures o.a o.left).1 in
+    let n = c.extent_of-before.ensures.count o.a o.left in
     let v = c.insert_below-left.ensures o.a (go_left g.T.Measure.ops w o (omega arith)) in
     let x = c.rebalance.ensures _ _ (level_left g.T.Measure.ops w o c.args.place c.args.element c.insert_below-left.auto.rows v) in
     done_left g.T.Measure.ops w o c.args.element (omega arith) v x
@@ -76,7 +76,7 @@ returns-then-place-before g t c = λ s w.
 pub returns-else-place-before : goal.returns-else-place-before
 returns-else-place-before g t c = λ s w.
     let o = opened s c.in-Some.is c.row_at-row.ensures w.under in
-    let n = (c.extent_of-before.ensures o.a o.left).1 in
+    let n = c.extent_of-before.ensures.count o.a o.left in
     let p = c.args.place - c.extent_of-before.result.count - 1 in
     let v = c.insert_below-right.ensures o.b (go_right g.T.Measure.ops w o p (omega arith) (omega arith)) in
     let x = c.rebalance-else-place-before.ensures _ _ (level_right g.T.Measure.ops w o p c.args.element c.insert_below-right.auto.rows v) in

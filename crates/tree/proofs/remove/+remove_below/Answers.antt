@@ -26,7 +26,7 @@ remove_below-deep-requires g t c κs inside = (
       inside.1,
       ∥∥₁_map c.requires (λ w.
           let o = opened w.0 c.in-Some.is c.row_at-row.ensures w.1.under in
-          let n = (c.extent_of-before.ensures o.a o.left).1 in
+          let n = c.extent_of-before.ensures.count o.a o.left in
           (o.a, loose_left g.T.Measure.ops w.1 o, omega arith)),
     ),
   ),
@@ -36,7 +36,7 @@ pub rebalance-top-requires : goal.rebalance-top-requires
 rebalance-top-requires g t c = ∥∥₁_map c.requires (λ w.
     let k = g.T.Measure.ops in
     let o = opened w.0 c.in-Some.is c.row_at-row.ensures w.1.under in
-    let n = (c.extent_of-before.ensures o.a o.left).1 in
+    let n = c.extent_of-before.ensures.count o.a o.left in
     let v = (c.remove_below-deep.ensures o.a (loose_left k w.1 o) (omega arith)).left in
     (_, o.b, left_level k w.1 o c.args.place c.remove_below-deep.auto.rows v))
 
@@ -44,7 +44,7 @@ pub returns-then-place-before : goal.returns-then-place-before
 returns-then-place-before g t c = λ s w h.
     let k = g.T.Measure.ops in
     let o = opened s c.in-Some.is c.row_at-row.ensures w.under in
-    let n = (c.extent_of-before.ensures o.a o.left).1 in
+    let n = c.extent_of-before.ensures.count o.a o.left in
     let v = c.remove_below-deep.ensures o.a (loose_left k w o) (omega arith) in
     removed_left k w o c.args.place (omega arith) v (c.rebalance-top.ensures _ _ (left_level k w o c.args.place c.remove_below-deep.auto.rows v.left))
 
@@ -57,7 +57,7 @@ pub returns-then-place-before-2 : goal.returns-then-place-before-2
 returns-then-place-before-2 g t c = λ s w h.
     let k = g.T.Measure.ops in
     let o = opened s c.in-Some.is c.row_at-row.ensures w.under in
-    let n = (c.extent_of-before.ensures o.a o.left).1 in
+    let n = c.extent_of-before.ensures.count o.a o.left in
     removed_here k w o c.args.place (omega arith) (c.merge-rest.ensures o.a o.b (both_sides k w o))
 
 pub remove_below-deep-requires-else-place-before-2 : goal.remove_below-deep-requires-else-place-before-2
@@ -69,7 +69,7 @@ remove_below-deep-requires-else-place-before-2 g t c κs inside = (
       inside.1,
       ∥∥₁_map c.requires (λ w.
           let o = opened w.0 c.in-Some.is c.row_at-row.ensures w.1.under in
-          let n = (c.extent_of-before.ensures o.a o.left).1 in
+          let n = c.extent_of-before.ensures.count o.a o.left in
           let h = w.2 in
           let z = ap size o.is in
           (o.b, loose_right g.T.Measure.ops w.1 o, omega arith)),
@@ -81,7 +81,7 @@ pub rebalance-top-requires-else-place-before-2 : goal.rebalance-top-requires-els
 rebalance-top-requires-else-place-before-2 g t c = ∥∥₁_map c.requires (λ w.
     let k = g.T.Measure.ops in
     let o = opened w.0 c.in-Some.is c.row_at-row.ensures w.1.under in
-    let n = (c.extent_of-before.ensures o.a o.left).1 in
+    let n = c.extent_of-before.ensures.count o.a o.left in
     let h = w.2 in
     let z = ap size o.is in
     let v = (c.remove_below-deep-else-place-before-2.ensures o.b (loose_right k w.1 o) (omega arith)).left in
@@ -91,7 +91,7 @@ pub returns-else-place-before-2 : goal.returns-else-place-before-2
 returns-else-place-before-2 g t c = λ s w h.
     let k = g.T.Measure.ops in
     let o = opened s c.in-Some.is c.row_at-row.ensures w.under in
-    let n = (c.extent_of-before.ensures o.a o.left).1 in
+    let n = c.extent_of-before.ensures.count o.a o.left in
     let z = ap size o.is in
     let p = c.args.place - c.extent_of-before.result.count - 1 in
     let v = c.remove_below-deep-else-place-before-2.ensures o.b (loose_right k w o) (omega arith) in

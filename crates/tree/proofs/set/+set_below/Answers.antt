@@ -27,7 +27,7 @@ set_below-requires g t c κs inside = (
       inside.1,
       ∥∥₁_map c.requires (λ w.
           let o = opened w.0 c.in-Some.is c.row_at-row.ensures w.1.under in
-          let n = (c.extent_of-before.ensures o.a o.left).1 in
+          let n = c.extent_of-before.ensures.count o.a o.left in
           (o.a, loose_left g.T.Measure.ops w.1 o, omega arith)),
     ),
   ),
@@ -37,7 +37,7 @@ pub write_node-requires : goal.write_node-requires
 write_node-requires g t c = ∥∥₁_map c.requires (λ w.
     let k = g.T.Measure.ops in
     let o = opened w.0 c.in-Some.is c.row_at-row.ensures w.1.under in
-    let n = (c.extent_of-before.ensures o.a o.left).1 in
+    let n = c.extent_of-before.ensures.count o.a o.left in
     (_, o.b, set_split_left k w.1 o c.args.place c.args.element c.set_below.auto.rows (c.set_below.ensures o.a (loose_left k w.1 o) (omega arith))))
 
 pub write_node-requires-then-place-before-2 : goal.write_node-requires-then-place-before-2
@@ -54,7 +54,7 @@ set_below-requires-else-place-before-2 g t c κs inside = (
       inside.1,
       ∥∥₁_map c.requires (λ w.
           let o = opened w.0 c.in-Some.is c.row_at-row.ensures w.1.under in
-          let n = (c.extent_of-before.ensures o.a o.left).1 in
+          let n = c.extent_of-before.ensures.count o.a o.left in
           let z = ap size o.is in
           let u = w.2 in
           (o.b, loose_right g.T.Measure.ops w.1 o, omega arith)),
@@ -66,7 +66,7 @@ pub write_node-requires-else-place-before-2 : goal.write_node-requires-else-plac
 write_node-requires-else-place-before-2 g t c = ∥∥₁_map c.requires (λ w.
     let k = g.T.Measure.ops in
     let o = opened w.0 c.in-Some.is c.row_at-row.ensures w.1.under in
-    let n = (c.extent_of-before.ensures o.a o.left).1 in
+    let n = c.extent_of-before.ensures.count o.a o.left in
     let z = ap size o.is in
     let u = w.2 in
     (o.a, _, set_split_right k w.1 o (c.args.place - c.extent_of-before.result.count - 1) c.args.element c.set_below-else-place-before-2.auto.rows (c.set_below-else-place-before-2.ensures o.b (loose_right k w.1 o) (omega arith))))
@@ -75,7 +75,7 @@ pub returns-then-place-before : goal.returns-then-place-before
 returns-then-place-before g t c = λ s w u.
     let k = g.T.Measure.ops in
     let o = opened s c.in-Some.is c.row_at-row.ensures w.under in
-    let n = (c.extent_of-before.ensures o.a o.left).1 in
+    let n = c.extent_of-before.ensures.count o.a o.left in
     let v = c.set_below.ensures o.a (loose_left k w o) (omega arith) in
     let x = c.write_node.ensures _ _ (set_split_left k w o c.args.place c.args.element c.set_below.auto.rows v) in
     set_left_done k w o c.args.place c.args.element (omega arith) c.in-Some.is v x
@@ -84,14 +84,14 @@ pub returns-then-place-before-2 : goal.returns-then-place-before-2
 returns-then-place-before-2 g t c = λ s w u.
     let k = g.T.Measure.ops in
     let o = opened s c.in-Some.is c.row_at-row.ensures w.under in
-    let n = (c.extent_of-before.ensures o.a o.left).1 in
+    let n = c.extent_of-before.ensures.count o.a o.left in
     set_here_done k w o c.args.place c.args.element (omega arith) c.in-Some.is (c.write_node-then-place-before-2.ensures _ _ (set_split_here k w o c.args.place c.args.element))
 
 pub returns-else-place-before-2 : goal.returns-else-place-before-2
 returns-else-place-before-2 g t c = λ s w u.
     let k = g.T.Measure.ops in
     let o = opened s c.in-Some.is c.row_at-row.ensures w.under in
-    let n = (c.extent_of-before.ensures o.a o.left).1 in
+    let n = c.extent_of-before.ensures.count o.a o.left in
     let z = ap size o.is in
     let q = c.args.place - c.extent_of-before.result.count - 1 in
     let v = c.set_below-else-place-before-2.ensures o.b (loose_right k w o) (omega arith) in

@@ -30,7 +30,7 @@ total_below-requires g t c κs inside = (
       inside.1,
       ∥∥₁_map c.requires (λ w.
           let o = opened w.0 c.in-Some.is c.row_at-row.ensures w.1 in
-          let n = (c.extent_of-before.ensures o.a o.left).1 in
+          let n = c.extent_of-before.ensures.count o.a o.left in
           (o.a, o.left, (w.2.0, omega arith))),
     ),
   ),
@@ -40,7 +40,7 @@ pub returns-then-end-before : goal.returns-then-end-before
 returns-then-end-before g t c = λ s w u l m.
     let h = g.T.Measure.laws in
     let o = opened s c.in-Some.is c.row_at-row.ensures w in
-    let n = (c.extent_of-before.ensures o.a o.left).1 in
+    let n = c.extent_of-before.ensures.count o.a o.left in
     total_left h o u c.args.first c.args.end l (omega arith) (c.total_below.ensures o.a o.left (left_totalled h o u) l (omega arith))
 
 pub total_below-requires-then-first-before : goal.total_below-requires-then-first-before
@@ -52,7 +52,7 @@ total_below-requires-then-first-before g t c κs inside = (
       inside.1,
       ∥∥₁_map c.requires (λ w.
           let o = opened w.0 c.in-Some.is c.row_at-row.ensures w.1 in
-          let n = (c.extent_of-before.ensures o.a o.left).1 in
+          let n = c.extent_of-before.ensures.count o.a o.left in
           let z = ap size o.is in
           let u = w.2.0 in
           let v = w.2.1 in
@@ -65,7 +65,7 @@ pub returns-then-first-before : goal.returns-then-first-before
 returns-then-first-before g t c = λ s w u l m.
     let h = g.T.Measure.laws in
     let o = opened s c.in-Some.is c.row_at-row.ensures w in
-    let n = (c.extent_of-before.ensures o.a o.left).1 in
+    let n = c.extent_of-before.ensures.count o.a o.left in
     let z = ap size o.is in
     let b = c.extent_of-before.result.count in
     total_right h o u c.args.first c.args.end (c.args.first - b - 1) (c.args.end - b - 1) l (omega arith) (omega arith)
@@ -80,7 +80,7 @@ total_below-left-requires g t c κs inside = (
       inside.1,
       ∥∥₁_map c.requires (λ w.
           let o = opened w.0 c.in-Some.is c.row_at-row.ensures w.1 in
-          let n = (c.extent_of-before.ensures o.a o.left).1 in
+          let n = c.extent_of-before.ensures.count o.a o.left in
           (o.a, o.left, (omega arith, omega arith))),
     ),
   ),
@@ -95,7 +95,7 @@ total_below-right-requires g t c κs inside = (
       inside.1,
       ∥∥₁_map c.requires (λ w.
           let o = opened w.0 c.in-Some.is c.row_at-row.ensures w.1 in
-          let n = (c.extent_of-before.ensures o.a o.left).1 in
+          let n = c.extent_of-before.ensures.count o.a o.left in
           let z = ap size o.is in
           let v = w.2.1 in
           (o.b, o.right, (omega arith, omega arith))),
@@ -108,7 +108,7 @@ returns g t c = λ s w u l m.
     let h = g.T.Measure.laws in
     let k = g.T.Measure.ops in
     let o = opened s c.in-Some.is c.row_at-row.ensures w in
-    let n = (c.extent_of-before.ensures o.a o.left).1 in
+    let n = c.extent_of-before.ensures.count o.a o.left in
     let z = ap size o.is in
     let b = c.extent_of-before.result.count in
     total_both h o u c.args.first c.args.end (c.args.end - b - 1) {l = c.total_below-left.result} {m = c.total_below-right.result} (omega arith) (omega arith)
